@@ -436,7 +436,7 @@ NW_USE int32_t nw_text_of_vote(const nw_subject *subject, nw_vote_text *out);
 
 /* Writes the message of the signer's vote for the block of this digest, round and author: 107 bytes. Writes
    this size to needed. Returns NW_SMALL if the buffer is smaller, and NW_BAD_ROUND if the round is not below
-   2^48. It does not check the signature. */
+   2^48. It does not check the signature, and needs no memory. */
 NW_USE int32_t nw_vote_message(const nw_subject *subject, uint16_t signer, const nw_signature *signature, uint8_t *buffer, size_t buffer_len, size_t *needed);
 
 /* Makes a block of this author and round. transactions has the bytes of all transactions, one after another,
@@ -457,19 +457,17 @@ NW_USE int32_t nw_block_counts(const nw_block *block, size_t *parents, size_t *t
 NW_USE int32_t nw_block_parent(const nw_block *block, size_t index, nw_parent *out);
 
 /* Writes the encoded body of the block to the buffer. The block's digest is SHA-256 of these bytes. Writes
-   their size to needed. Returns NW_SMALL if the buffer is smaller, and NW_OVER_LIMIT if the block breaks a
-   limit of the format. */
+   their size to needed. Returns NW_SMALL if the buffer is smaller. It needs no memory. */
 NW_USE int32_t nw_block_body(const nw_block *block, uint8_t *buffer, size_t buffer_len, size_t *needed);
 
 /* Writes the message of the block with this signature, which can be sent to other members. Writes its size
-   to needed. Returns NW_SMALL if the buffer is smaller, and NW_OVER_LIMIT if the block breaks a limit of the
-   format. It does not check the signature. */
+   to needed. Returns NW_SMALL if the buffer is smaller. It does not check the signature, and needs no
+   memory. */
 NW_USE int32_t nw_block_message(const nw_block *block, const nw_signature *signature, uint8_t *buffer, size_t buffer_len, size_t *needed);
 
 /* Copies all transactions of the block to the buffer, one after another, and their sizes to lengths, in the
    form that nw_block_new takes. Writes the size of all together to needed. Returns NW_SMALL if the buffer is
-   smaller than that, or if lengths has fewer places than the block has transactions (nw_block_counts).
-   Returns NW_OVER_LIMIT if the block breaks a limit of the format; no checked block does. */
+   smaller than that, or if lengths has fewer places than the block has transactions (nw_block_counts). */
 NW_USE int32_t nw_block_transactions(const nw_block *block, uint8_t *buffer, size_t buffer_len, uint32_t *lengths, size_t lengths_len, size_t *needed);
 
 /* Writes what the front of the text says: the kind of message, its round and author, the digest of a
@@ -492,7 +490,7 @@ NW_USE int32_t nw_checked_block(const nw_checked *checked, nw_block *out);
 
 /* Writes the message of the checked block, certificate or vote, which can be sent to other members. Writes
    its size to needed. Returns NW_SMALL if the buffer is smaller, and NW_OTHER_KIND if the text is neither a
-   valid block, nor a valid certificate, nor a vote. */
+   valid block, nor a valid certificate, nor a vote. It needs no memory. */
 NW_USE int32_t nw_checked_message(const nw_checked *checked, uint8_t *buffer, size_t buffer_len, size_t *needed);
 
 /* Writes the number of the signer at the index, counted from 0, of the checked certificate. Signers ascend.
@@ -648,7 +646,7 @@ NW_USE int32_t nw_answer_block(const nw_answer *answer, nw_block *out);
 
 /* Writes the message of the certificate that a call for a certificate found. Writes its size to needed.
    Returns NW_SMALL if the buffer is smaller, NW_ABSENT if the call found no certificate, and NW_OTHER_KIND
-   if the answer is to another call. */
+   if the answer is to another call. It needs no memory. */
 NW_USE int32_t nw_answer_message(const nw_answer *answer, uint8_t *buffer, size_t buffer_len, size_t *needed);
 
 /* Writes one of the parents that a call for missing parents listed, of all blocks or of one. index counts

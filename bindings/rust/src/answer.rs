@@ -1,8 +1,7 @@
 //! Answers to calls.
 
-use crate::raw::{reply, tagged};
 use crate::room::Room;
-use crate::{CausalFault, History, Ticket};
+use crate::{CausalFault, History, Reply, Ticket};
 use std::cell::OnceCell;
 use std::fmt;
 
@@ -90,11 +89,9 @@ pub enum Causal {
 
 impl Causal {
     pub(crate) fn of(mut room: Room) -> Causal {
-        match tagged(&mut room).kind {
-            reply::READY => Causal::Ready(Ticket::new(room)),
-            _ => Causal::NotReady(Answer::new(room, |answer, _| {
-                CausalFault::of(&tagged(answer))
-            })),
+        match Reply::read(&mut room) {
+            Reply::Ready => Causal::Ready(Ticket::new(room)),
+            _ => Causal::NotReady(Answer::new(room, |answer, _| CausalFault::read(answer))),
         }
     }
 

@@ -1,14 +1,15 @@
 //! Blocks.
 
-use crate::code::Code;
-use crate::error::error_texts;
+use crate::code::{Code, read};
+use crate::debug::debug_by;
+use crate::error::coded_error;
 use crate::ffi::{self, Handle};
+use crate::lock::Lock;
 use crate::parts::Parts;
 use crate::raw::RawParent;
 use crate::room::Room;
 use crate::{Digest, Signature, Subject, Transactions, text_of_block};
-use std::fmt;
-use std::sync::{Arc, Mutex, MutexGuard, OnceLock, PoisonError};
+use std::sync::{Arc, OnceLock};
 
 /// A block: its author, its round, its references to blocks of the preceding round, and its
 /// transactions.
@@ -32,7 +33,7 @@ use std::sync::{Arc, Mutex, MutexGuard, OnceLock, PoisonError};
 /// ```
 pub struct Block {
     /// The source of the block until its parts are first used.
-    source: Mutex<Option<Source>>,
+    source: Lock<Option<Source>>,
     inner: OnceLock<Arc<Inner>>,
 }
 
@@ -43,12 +44,12 @@ pub(crate) enum Source {
     /// The answer to a read.
     Answer(Room),
     /// This index of the list of a walk.
-    Listed(Arc<Mutex<Handle>>, usize),
+    Listed(Arc<Lock<Handle>>, usize),
 }
 
 /// The state that all owners of a block share.
 struct Inner {
-    handle: Mutex<Handle>,
+    handle: Lock<Handle>,
     subject: Subject,
     parts: OnceLock<Parts>,
 }
@@ -80,8 +81,7 @@ impl Block {
             lengths.push(u32::try_from(transaction.len()).map_err(|_| BlockError::OverLimit)?);
             together.extend_from_slice(transaction);
         }
-        let handle = ffi::block_new(author, round, &parents, &together, &lengths);
-        let handle = handle.map_err(BlockError::of)?;
+        let handle = ffi::block_new(author, round, &parents, &together, &lengths)?;
         Ok(Block::at(Source::Own(handle)))
     }
 
@@ -89,36 +89,31 @@ impl Block {
     #[inline]
     pub(crate) fn at(source: Source) -> Block {
         Block {
-            source: Mutex::new(Some(source)),
+            source: Lock::new(Some(source)),
             inner: OnceLock::new(),
         }
     }
 
     /// The block that a read found. The answer stays usable.
     pub(crate) fn found(answer: &mut Handle) -> Block {
-        Block::at(Source::Own(opened(|out| ffi::nw_answer_block(answer, out))))
-    }
-
-    fn shared(inner: Arc<Inner>) -> Block {
-        Block {
-            source: Mutex::new(None),
-            inner: OnceLock::from(inner),
-        }
+        Block::at(Source::Own(opened_or_abort(|out| {
+            ffi::nw_answer_block(answer, out)
+        })))
     }
 
     fn inner(&self) -> &Arc<Inner> {
         self.inner.get_or_init(|| {
-            let mut source = self.source.lock().unwrap_or_else(PoisonError::into_inner);
-            let source = source
-                .take()
-                .expect("a block has a source until its parts are first used");
+            let source = self.source.lock().take();
+            let source = source.expect("a block has a source until its parts are first used");
             Arc::new(Inner::of(source))
         })
     }
 
     fn parts(&self) -> &Parts {
         let inner = self.inner();
-        inner.parts.get_or_init(|| Parts::of(&mut inner.lock()))
+        inner
+            .parts
+            .get_or_init(|| Parts::of(&mut inner.handle.lock()))
     }
 
     /// Returns the SHA-256 digest of the body.
@@ -160,8 +155,7 @@ impl Block {
     /// Returns the encoded body, at most 1,048,576 bytes. Its SHA-256 is the digest of the block.
     #[must_use]
     pub fn body(&self) -> Vec<u8> {
-        let body = ffi::block_body(&mut self.inner().lock());
-        body.unwrap_or_else(|code| code.abort())
+        ffi::block_body(&mut self.inner().handle.lock()).unwrap_or_else(Code::abort)
     }
 
     /// Returns the 36 bytes that the author signs.
@@ -176,8 +170,8 @@ impl Block {
     /// This does not verify the signature.
     #[must_use]
     pub fn message(&self, signature: &Signature) -> Vec<u8> {
-        let message = ffi::block_message(&mut self.inner().lock(), signature);
-        message.unwrap_or_else(|code| code.abort())
+        let message = ffi::block_message(&mut self.inner().handle.lock(), signature);
+        message.unwrap_or_else(Code::abort)
     }
 }
 
@@ -187,44 +181,39 @@ impl Inner {
     fn of(source: Source) -> Inner {
         let mut handle = match source {
             Source::Own(handle) => handle,
-            Source::Answer(mut answer) => opened(|out| ffi::nw_answer_block(&mut answer, out)),
+            Source::Answer(mut answer) => {
+                opened_or_abort(|out| ffi::nw_answer_block(&mut answer, out))
+            }
             Source::Listed(list, index) => {
-                let mut list = list.lock().unwrap_or_else(PoisonError::into_inner);
-                opened(|out| ffi::nw_list_block(&mut list, index, out))
+                opened_or_abort(|out| ffi::nw_list_block(&mut list.lock(), index, out))
             }
         };
-        let mut subject = Subject::EMPTY;
-        ffi::nw_block_subject(&mut handle, &mut subject).or_abort();
+        let subject = read(Subject::EMPTY, |out| {
+            ffi::nw_block_subject(&mut handle, out)
+        });
         Inner {
-            handle: Mutex::new(handle),
+            handle: Lock::new(handle),
             subject,
             parts: OnceLock::new(),
         }
     }
-
-    fn lock(&self) -> MutexGuard<'_, Handle> {
-        self.handle.lock().unwrap_or_else(PoisonError::into_inner)
-    }
 }
 
 /// The handle that the call opens. If memory runs out, this ends the process, as `Vec` does.
-pub(crate) fn opened(open: impl FnOnce(&mut Handle) -> Code) -> Handle {
-    Handle::opened(open).unwrap_or_else(|code| code.abort())
+pub(crate) fn opened_or_abort(open: impl FnOnce(&mut Handle) -> Code) -> Handle {
+    Handle::opened(open).unwrap_or_else(Code::abort)
 }
 
 impl Clone for Block {
     fn clone(&self) -> Block {
-        Block::shared(Arc::clone(self.inner()))
+        Block {
+            source: Lock::new(None),
+            inner: OnceLock::from(Arc::clone(self.inner())),
+        }
     }
 }
 
-impl fmt::Debug for Block {
-    fn fmt(&self, f: &mut fmt::Formatter<'_>) -> fmt::Result {
-        f.debug_struct("Block")
-            .field("subject", &self.subject())
-            .finish_non_exhaustive()
-    }
-}
+debug_by!(Block: subject);
 
 /// Why a block cannot be made.
 #[derive(Clone, Copy, Debug, PartialEq, Eq)]
@@ -238,42 +227,18 @@ pub enum BlockError {
     NoMemory,
 }
 
-error_texts!(BlockError {
-    BlockError::BadRound => "the round is not below 2^48",
-    BlockError::OverLimit => "the block breaks a limit or the order of the format",
-    BlockError::NoMemory => "out of memory",
+coded_error!(BlockError {
+    BadRound = BAD_ROUND => "the round is not below 2^48",
+    OverLimit = OVER_LIMIT => "the block breaks a limit or the order of the format",
 });
-
-impl BlockError {
-    fn of(code: Code) -> BlockError {
-        match code {
-            Code::BAD_ROUND => BlockError::BadRound,
-            Code::OVER_LIMIT => BlockError::OverLimit,
-            Code::NO_MEMORY => BlockError::NoMemory,
-            other => other.unexpected(),
-        }
-    }
-}
 
 #[cfg(test)]
 mod tests {
     use super::{Block, Source};
     use crate::Signature;
+    use crate::lock::{Lock, tests::panic_under};
     use crate::no_memory::{closed, closed_room, refuses};
-    use std::sync::{Arc, Mutex};
-    use std::thread;
-
-    /// A lock whose holder panicked.
-    fn poisoned<T: Send>(lock: &Mutex<T>) {
-        thread::scope(|scope| {
-            let panics = scope.spawn(|| {
-                let _guard = lock.lock();
-                panic!("under the lock");
-            });
-            panics.join().unwrap_err();
-        });
-        assert!(lock.is_poisoned());
-    }
+    use std::sync::Arc;
 
     fn block() -> Block {
         Block::new(0, 1, &[], &["x"]).unwrap()
@@ -282,9 +247,9 @@ mod tests {
     #[test]
     fn a_panic_under_a_lock_stops_nobody() {
         let (source, handle) = (block(), block());
-        poisoned(&source.source);
+        panic_under(|| source.source.lock());
         assert_eq!(source.round(), 1);
-        poisoned(&handle.inner().handle);
+        panic_under(|| handle.inner().handle.lock());
         assert_eq!(
             (handle.body(), handle.digest()),
             (source.body(), source.digest())
@@ -293,8 +258,8 @@ mod tests {
 
     #[test]
     fn a_panic_of_another_reader_stops_no_walk() {
-        let list = Arc::new(Mutex::new(closed()));
-        poisoned(&list);
+        let list = Arc::new(Lock::new(closed()));
+        panic_under(|| list.lock());
         // The text is that of a closed handle, and not that of a lock.
         refuses(|| Block::at(Source::Listed(list, 0)).round());
     }
@@ -305,7 +270,7 @@ mod tests {
         refuses(|| own().body());
         refuses(|| own().digest());
         refuses(|| own().message(&Signature([0; 64])));
-        let list = Arc::new(Mutex::new(closed()));
+        let list = Arc::new(Lock::new(closed()));
         refuses(|| Block::at(Source::Listed(list, 0)).round());
         refuses(|| Block::at(Source::Answer(closed_room())).round());
     }

@@ -1,6 +1,7 @@
 //! The settings of a new store.
 
-use crate::ffi::{self, Handle};
+use crate::ffi::{self, Handle, Spare};
+use crate::lock::Lock;
 use crate::room::Content;
 use crate::store::Inner;
 use crate::turns::Turns;
@@ -90,14 +91,21 @@ impl StoreBuilder {
     ///
     /// [`OpenError::BadLimits`] if a limit is outside its range.
     pub fn open(self) -> Result<Store, OpenError> {
-        let mut members = self.committee.share().map_err(OpenError::of)?;
-        let store = |out: &mut Handle| ffi::nw_store_new(&mut members, &self.limits, out);
-        let store = Handle::opened(store).map_err(OpenError::of)?;
-        let restart = self.restart.map(|when| when.within(&self.limits));
-        let turns = Turns::new(self.takes_turns);
-        let inner = Inner::new(store, self.committee, self.limits, restart, turns);
+        let mut members = self.committee.share()?;
+        let store = Handle::opened(|out| ffi::nw_store_new(&mut members, &self.limits, out))?;
+        let restart = self.restart.map(|when| RestartWhen {
+            events: when.events.min(self.limits.events),
+            ..when
+        });
         Ok(Store {
-            inner: Arc::new(inner),
+            inner: Arc::new(Inner {
+                store: Lock::new(store),
+                turns: Turns::new(self.takes_turns),
+                spare: Arc::new(Spare::new()),
+                committee: self.committee,
+                limits: self.limits,
+                restart,
+            }),
         })
     }
 }
@@ -110,13 +118,6 @@ pub(crate) struct RestartWhen {
 }
 
 impl RestartWhen {
-    fn within(self, limits: &Limits) -> RestartWhen {
-        RestartWhen {
-            events: self.events.min(limits.events),
-            ..self
-        }
-    }
-
     /// Whether a history of these events and bytes restarts before a call with this content.
     #[inline]
     pub(crate) fn is_met(self, events: usize, bytes: u64, content: Content) -> bool {

@@ -1,7 +1,7 @@
 //! Digests, public keys and signatures.
 
+use crate::error::error_texts;
 use crate::ffi;
-use std::error::Error;
 use std::fmt;
 use std::str::FromStr;
 
@@ -124,18 +124,10 @@ pub enum HexError {
     },
 }
 
-impl fmt::Display for HexError {
-    fn fmt(&self, f: &mut fmt::Formatter<'_>) -> fmt::Result {
-        match self {
-            HexError::Length { expected, found } => {
-                write!(f, "expected {expected} hex digits, found {found} bytes")
-            }
-            HexError::Digit { index } => write!(f, "the byte at index {index} is not a hex digit"),
-        }
-    }
-}
-
-impl Error for HexError {}
+error_texts!(HexError {
+    HexError::Length { expected, found } => "expected {expected} hex digits, found {found} bytes",
+    HexError::Digit { index } => "the byte at index {index} is not a hex digit",
+});
 
 /// The bytes that the hex digits encode.
 fn bytes_of<const N: usize>(text: &str) -> Result<[u8; N], HexError> {

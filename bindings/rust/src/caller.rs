@@ -1,6 +1,6 @@
 //! The library's sessions.
 
-use crate::code::Code;
+use crate::code::{Code, read};
 use crate::ffi::{self, Handle};
 use std::thread;
 use std::time::Duration;
@@ -12,10 +12,9 @@ pub(crate) struct Caller {
 }
 
 impl Caller {
+    /// A caller. [`Caller::note_run`] reads its run.
     pub(crate) fn new(handle: Handle) -> Caller {
-        let mut caller = Caller { handle, run: 0 };
-        caller.note_run();
-        caller
+        Caller { handle, run: 0 }
     }
 
     /// The number of the run that the session belongs to.
@@ -26,9 +25,7 @@ impl Caller {
 
     /// The number of the session among those of its store.
     pub(crate) fn id(&mut self) -> u16 {
-        let mut id = 0;
-        ffi::nw_session_id(&mut self.handle, &mut id).or_abort();
-        id
+        read(0, |out| ffi::nw_session_id(&mut self.handle, out))
     }
 
     /// Makes a call of the session, and again while the library is busy.
@@ -37,33 +34,9 @@ impl Caller {
         again(|| call(&mut self.handle))
     }
 
-    /// Takes the session into the present run.
-    pub(crate) fn renew(&mut self) -> Code {
-        let code = self.call(|session| ffi::nw_session_renew(session));
-        self.note_run();
-        code
-    }
-
-    /// Ends the session's run, and begins the next one. The answer gets the last history of the
-    /// ended run.
-    pub(crate) fn restart(&mut self, answer: &mut Handle) -> Code {
-        let code = self.call(|session| ffi::nw_session_restart(session, answer));
-        self.note_run();
-        code
-    }
-
-    /// Gives the session to the settlement. The handle of the session is then closed.
-    pub(crate) fn give_to(&mut self, settlement: &mut Handle) -> Code {
-        ffi::nw_settlement_give(settlement, &mut self.handle)
-    }
-
-    /// Takes the session back, which was given last.
-    pub(crate) fn take_from(&mut self, settlement: &mut Handle) -> Code {
-        ffi::nw_settlement_take(settlement, &mut self.handle)
-    }
-
-    fn note_run(&mut self) {
-        ffi::nw_session_run(&mut self.handle, &mut self.run).or_abort();
+    /// Reads the number of the run. Calls can change it.
+    pub(crate) fn note_run(&mut self) {
+        self.run = read(0, |out| ffi::nw_session_run(&mut self.handle, out));
     }
 }
 

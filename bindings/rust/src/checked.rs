@@ -1,28 +1,13 @@
 //! Checked messages.
 
-use crate::block::{Source, opened};
-use crate::code::Code;
+use crate::block::{Source, opened_or_abort};
+use crate::code::{Code, read};
+use crate::debug::debug_by;
 use crate::ffi::{self, Handle};
+use crate::lock::Lock;
 use crate::raw::RawMessage;
 use crate::{Block, Subject};
-use std::fmt;
-use std::sync::{Arc, Mutex, MutexGuard, PoisonError};
-
-/// A handle that clones of a checked message share, in several threads.
-#[derive(Clone)]
-pub(crate) struct SharedHandle(Arc<Mutex<Handle>>);
-
-impl SharedHandle {
-    pub(crate) fn new(handle: Handle) -> SharedHandle {
-        SharedHandle(Arc::new(Mutex::new(handle)))
-    }
-
-    /// The handle, for one call.
-    pub(crate) fn lock(&self) -> MutexGuard<'_, Handle> {
-        // No call leaves a handle half changed, so a panic of another thread does no harm.
-        self.0.lock().unwrap_or_else(PoisonError::into_inner)
-    }
-}
+use std::sync::Arc;
 
 /// A message that passed [`Message::check`](crate::Message::check).
 ///
@@ -43,7 +28,7 @@ pub enum Checked {
 /// again to the same store.
 #[derive(Clone)]
 pub struct CheckedBlock {
-    pub(crate) handle: SharedHandle,
+    pub(crate) handle: Arc<Lock<Handle>>,
     pub(crate) subject: Subject,
     /// The bytes of its body.
     pub(crate) size: u64,
@@ -59,7 +44,7 @@ impl CheckedBlock {
     /// Returns the block.
     #[must_use]
     pub fn block(&self) -> Block {
-        let handle = opened(|out| ffi::nw_checked_block(&mut self.handle.lock(), out));
+        let handle = opened_or_abort(|out| ffi::nw_checked_block(&mut self.handle.lock(), out));
         Block::at(Source::Own(handle))
     }
 
@@ -82,13 +67,7 @@ impl CheckedBlock {
     }
 }
 
-impl fmt::Debug for CheckedBlock {
-    fn fmt(&self, f: &mut fmt::Formatter<'_>) -> fmt::Result {
-        f.debug_struct("CheckedBlock")
-            .field("subject", &self.subject)
-            .finish_non_exhaustive()
-    }
-}
+debug_by!(CheckedBlock: subject);
 
 /// A certificate that is valid under its committee: members that reach the quorum signed votes for
 /// one subject.
@@ -97,7 +76,7 @@ impl fmt::Debug for CheckedBlock {
 /// again to the same store.
 #[derive(Clone)]
 pub struct CheckedCertificate {
-    pub(crate) handle: SharedHandle,
+    pub(crate) handle: Arc<Lock<Handle>>,
     pub(crate) subject: Subject,
     /// The bytes of its message.
     pub(crate) size: u64,
@@ -106,11 +85,12 @@ pub struct CheckedCertificate {
 impl CheckedCertificate {
     /// The certificate of a handle.
     pub(crate) fn of(mut handle: Handle) -> CheckedCertificate {
-        let mut raw = RawMessage::EMPTY;
-        ffi::nw_checked_kind(&mut handle, &mut raw).or_abort();
+        let raw = read(RawMessage::EMPTY, |out| {
+            ffi::nw_checked_kind(&mut handle, out)
+        });
         let size = ffi::checked_message_size(&mut handle);
         CheckedCertificate {
-            handle: SharedHandle::new(handle),
+            handle: Arc::new(Lock::new(handle)),
             subject: raw.subject,
             size: size as u64,
         }
@@ -141,13 +121,7 @@ impl CheckedCertificate {
     }
 }
 
-impl fmt::Debug for CheckedCertificate {
-    fn fmt(&self, f: &mut fmt::Formatter<'_>) -> fmt::Result {
-        f.debug_struct("CheckedCertificate")
-            .field("subject", &self.subject)
-            .finish_non_exhaustive()
-    }
-}
+debug_by!(CheckedCertificate: subject);
 
 /// A vote: a member's signature for a subject.
 ///
@@ -157,7 +131,7 @@ impl fmt::Debug for CheckedCertificate {
 /// [`Gather::add`]: crate::Gather::add
 #[derive(Clone)]
 pub struct CheckedVote {
-    pub(crate) handle: SharedHandle,
+    pub(crate) handle: Arc<Lock<Handle>>,
     pub(crate) subject: Subject,
     pub(crate) signer: u16,
 }
@@ -182,16 +156,8 @@ impl CheckedVote {
     }
 }
 
-impl fmt::Debug for CheckedVote {
-    fn fmt(&self, f: &mut fmt::Formatter<'_>) -> fmt::Result {
-        f.debug_struct("CheckedVote")
-            .field("subject", &self.subject)
-            .field("signer", &self.signer)
-            .finish_non_exhaustive()
-    }
-}
+debug_by!(CheckedVote: subject, signer);
 
-fn message_of(handle: &SharedHandle) -> Vec<u8> {
-    let message = ffi::checked_message(&mut handle.lock());
-    message.unwrap_or_else(|code| code.abort())
+fn message_of(handle: &Lock<Handle>) -> Vec<u8> {
+    ffi::checked_message(&mut handle.lock()).unwrap_or_else(Code::abort)
 }

@@ -1,6 +1,5 @@
 //! The codes that the library returns.
 
-use crate::NoMemory;
 use std::alloc::{Layout, handle_alloc_error};
 
 /// A code that a function of the library returned.
@@ -41,33 +40,18 @@ impl Code {
         }
     }
 
-    /// The result of a call that fails only if memory runs out.
-    #[inline]
-    pub(crate) fn or_no_memory(self) -> Result<(), NoMemory> {
-        self.done().map_err(Code::no_memory)
-    }
-
-    /// The error of a call that fails only if memory runs out.
-    #[cold]
-    pub(crate) fn no_memory(self) -> NoMemory {
-        match self {
-            Code::NO_MEMORY => NoMemory,
-            other => other.unexpected(),
-        }
-    }
-
     /// Ends the process if the call failed, because its caller returns no error. If memory ran out,
     /// it ends the process as `Vec` does.
     #[inline]
     pub(crate) fn or_abort(self) {
         if self != Code::DONE {
-            self.abort();
+            self.abort()
         }
     }
 
-    /// Ends the process as `Vec` does when memory runs out.
+    /// Ends the process as `Vec` does when memory runs out. Never returns, whatever `T` is.
     #[cold]
-    pub(crate) fn abort(self) -> ! {
+    pub(crate) fn abort<T>(self) -> T {
         match self {
             Code::NO_MEMORY => handle_alloc_error(Layout::new::<usize>()),
             other => other.unexpected(),
@@ -82,6 +66,13 @@ impl Code {
             self.0
         )
     }
+}
+
+/// What a call writes over this value. If the call fails, this ends the process.
+#[inline]
+pub(crate) fn read<T>(mut value: T, call: impl FnOnce(&mut T) -> Code) -> T {
+    call(&mut value).or_abort();
+    value
 }
 
 #[cfg(test)]

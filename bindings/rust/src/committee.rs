@@ -1,11 +1,12 @@
 //! Committees.
 
 use crate::PublicKey;
-use crate::code::Code;
-use crate::error::error_texts;
+use crate::code::{Code, read};
+use crate::error::coded_error;
 use crate::ffi::{self, Handle};
+use crate::lock::Lock;
 use std::fmt;
-use std::sync::{Arc, Mutex, PoisonError};
+use std::sync::Arc;
 
 /// A member of a committee.
 #[derive(Clone, Copy, Debug, PartialEq, Eq)]
@@ -47,7 +48,7 @@ pub struct Committee {
 
 struct Inner {
     /// Locked only to make a second handle of the committee.
-    handle: Mutex<Handle>,
+    handle: Lock<Handle>,
     members: Box<[Member]>,
     quorum: u32,
 }
@@ -64,7 +65,7 @@ impl Committee {
     /// [`CommitteeError::Invalid`] unless there are 1 to 100 members with distinct keys, each with
     /// a weight from 1 to 1,000,000.
     pub fn new(members: &[Member]) -> Result<Committee, CommitteeError> {
-        let handle = ffi::committee_new(members).map_err(CommitteeError::of)?;
+        let handle = ffi::committee_new(members)?;
         Ok(Committee {
             inner: Arc::new(Inner::of(handle)),
         })
@@ -120,26 +121,23 @@ impl Committee {
 
     /// A handle for calls that run without a lock.
     pub(crate) fn share(&self) -> Result<Handle, Code> {
-        let lock = self.inner.handle.lock();
-        let mut handle = lock.unwrap_or_else(PoisonError::into_inner);
+        let mut handle = self.inner.handle.lock();
         Handle::opened(|out| ffi::nw_committee_share(&mut handle, out))
     }
 }
 
 impl Inner {
     fn of(mut handle: Handle) -> Inner {
-        let (mut size, mut quorum) = (0, 0);
-        ffi::nw_committee_size(&mut handle, &mut size).or_abort();
-        ffi::nw_committee_quorum(&mut handle, &mut quorum).or_abort();
-        let mut member = |index| {
-            let mut member = Member::EMPTY;
-            ffi::nw_committee_member(&mut handle, index, &mut member).or_abort();
-            member
+        let size = read(0, |out| ffi::nw_committee_size(&mut handle, out));
+        let member = |index| {
+            read(Member::EMPTY, |out| {
+                ffi::nw_committee_member(&mut handle, index, out)
+            })
         };
         Inner {
-            members: (0..size as u16).map(&mut member).collect(),
-            handle: Mutex::new(handle),
-            quorum,
+            members: (0..size as u16).map(member).collect(),
+            quorum: read(0, |out| ffi::nw_committee_quorum(&mut handle, out)),
+            handle: Lock::new(handle),
         }
     }
 }
@@ -164,27 +162,17 @@ pub enum CommitteeError {
     NoMemory,
 }
 
-error_texts!(CommitteeError {
-    CommitteeError::Invalid =>
+coded_error!(CommitteeError {
+    Invalid = BAD_COMMITTEE =>
         "a committee has 1 to 100 members with distinct keys, and weights from 1 to 1,000,000",
-    CommitteeError::NoMemory => "out of memory",
 });
-
-impl CommitteeError {
-    fn of(code: Code) -> CommitteeError {
-        match code {
-            Code::BAD_COMMITTEE => CommitteeError::Invalid,
-            other => other.no_memory().into(),
-        }
-    }
-}
 
 #[cfg(test)]
 mod tests {
     use super::{Committee, Inner, Member};
     use crate::PublicKey;
+    use crate::lock::tests::panic_under;
     use crate::no_memory::{closed, refuses};
-    use std::thread;
 
     #[test]
     fn what_cannot_be_read_is_not_empty() {
@@ -209,13 +197,7 @@ mod tests {
     #[test]
     fn a_panic_under_the_lock_stops_nobody() {
         let committee = Committee::equal(&[PublicKey([1; 32])]).unwrap();
-        thread::scope(|scope| {
-            let panics = scope.spawn(|| {
-                let _guard = committee.inner.handle.lock();
-                panic!("under the lock");
-            });
-            panics.join().unwrap_err();
-        });
+        panic_under(|| committee.inner.handle.lock());
         assert!(committee.share().is_ok());
     }
 }

@@ -1,9 +1,54 @@
-//! Errors that several modules share.
+//! Errors that several modules share, and what all errors have in common.
 
 use crate::code::Code;
-use crate::{AgreeError, BlockError, CheckError, CommitteeError, GatherError, SettleError};
-use std::error::Error;
-use std::fmt;
+
+/// Implements `Display` and `Error` for an error, with a text for each of its cases.
+macro_rules! error_texts {
+    ($name:ident { $($case:pat => $text:literal),+ $(,)? }) => {
+        impl std::fmt::Display for $name {
+            fn fmt(&self, f: &mut std::fmt::Formatter<'_>) -> std::fmt::Result {
+                match self { $($case => write!(f, $text)),+ }
+            }
+        }
+
+        impl std::error::Error for $name {}
+    };
+}
+
+/// Implements `From<Code>` with a variant for each of these codes, and `From<NoMemory>`.
+macro_rules! from_codes {
+    ($name:ident { $($code:ident => $variant:ident,)* }) => {
+        impl From<$crate::NoMemory> for $name {
+            fn from(_: $crate::NoMemory) -> $name {
+                $name::NoMemory
+            }
+        }
+
+        impl From<$crate::code::Code> for $name {
+            #[cold]
+            fn from(code: $crate::code::Code) -> $name {
+                match code {
+                    $($crate::code::Code::$code => $name::$variant,)*
+                    other => $crate::NoMemory::from(other).into(),
+                }
+            }
+        }
+    };
+}
+
+/// Implements an error of the library: its texts, and its conversion from codes. Each such error
+/// also has the variant `NoMemory`.
+macro_rules! coded_error {
+    ($name:ident { $($variant:ident $(= $code:ident)? => $text:literal),+ $(,)? }) => {
+        $crate::error::error_texts!($name {
+            $($name::$variant => $text,)+
+            $name::NoMemory => "out of memory",
+        });
+        $crate::error::from_codes!($name { $($($code => $variant,)?)+ });
+    };
+}
+
+pub(crate) use {coded_error, error_texts, from_codes};
 
 /// The library could not allocate memory. The call changed nothing and can be repeated.
 ///
@@ -12,40 +57,38 @@ use std::fmt;
 #[derive(Clone, Copy, Debug, PartialEq, Eq)]
 pub struct NoMemory;
 
-impl fmt::Display for NoMemory {
-    fn fmt(&self, f: &mut fmt::Formatter<'_>) -> fmt::Result {
-        f.write_str("out of memory")
+error_texts!(NoMemory {
+    NoMemory => "out of memory",
+});
+
+/// The error of a call that fails only if memory runs out.
+impl From<Code> for NoMemory {
+    #[cold]
+    fn from(code: Code) -> NoMemory {
+        match code {
+            Code::NO_MEMORY => NoMemory,
+            other => other.unexpected(),
+        }
     }
 }
-
-impl Error for NoMemory {}
 
 /// A round is 2^48 or more.
 #[derive(Clone, Copy, Debug, PartialEq, Eq)]
 pub struct BadRound;
 
-impl fmt::Display for BadRound {
-    fn fmt(&self, f: &mut fmt::Formatter<'_>) -> fmt::Result {
-        f.write_str("the round is not below 2^48")
+error_texts!(BadRound {
+    BadRound => "the round is not below 2^48",
+});
+
+/// The error of a call that ends the process if memory runs out.
+impl From<Code> for BadRound {
+    fn from(code: Code) -> BadRound {
+        match code {
+            Code::BAD_ROUND => BadRound,
+            other => other.abort(),
+        }
     }
 }
-
-impl Error for BadRound {}
-
-/// Implements `Display` and `Error` for an enum, with a text for each variant.
-macro_rules! error_texts {
-    ($name:ident { $($variant:pat => $text:literal),+ $(,)? }) => {
-        impl std::fmt::Display for $name {
-            fn fmt(&self, f: &mut std::fmt::Formatter<'_>) -> std::fmt::Result {
-                f.write_str(match self { $($variant => $text),+ })
-            }
-        }
-
-        impl std::error::Error for $name {}
-    };
-}
-
-pub(crate) use error_texts;
 
 /// Why a store cannot be opened, or a session cannot be made.
 #[derive(Clone, Copy, Debug, PartialEq, Eq)]
@@ -59,22 +102,10 @@ pub enum OpenError {
     NoMemory,
 }
 
-error_texts!(OpenError {
-    OpenError::BadLimits => "a limit is outside its range",
-    OpenError::TooManySessions => "the store has as many sessions as its limit",
-    OpenError::NoMemory => "out of memory",
+coded_error!(OpenError {
+    BadLimits = BAD_LIMITS => "a limit is outside its range",
+    TooManySessions = TOO_MANY_SESSIONS => "the store has as many sessions as its limit",
 });
-
-impl OpenError {
-    pub(crate) fn of(code: Code) -> OpenError {
-        match code {
-            Code::BAD_LIMITS => OpenError::BadLimits,
-            Code::TOO_MANY_SESSIONS => OpenError::TooManySessions,
-            Code::NO_MEMORY => OpenError::NoMemory,
-            other => other.unexpected(),
-        }
-    }
-}
 
 /// Why a call took no step. The store is as it was before the call, with one exception: if the call
 /// restarted the history first, the history is empty.
@@ -92,43 +123,8 @@ pub enum StepError {
     NoMemory,
 }
 
-error_texts!(StepError {
-    StepError::OtherCommittee => "the message was checked under another committee",
-    StepError::HistoryFull => "the history has as many events as its limit",
-    StepError::BadRound => "the round is not below 2^48",
-    StepError::NoMemory => "out of memory",
+coded_error!(StepError {
+    OtherCommittee = OTHER_COMMITTEE => "the message was checked under another committee",
+    HistoryFull = HISTORY_FULL => "the history has as many events as its limit",
+    BadRound = BAD_ROUND => "the round is not below 2^48",
 });
-
-impl StepError {
-    pub(crate) fn of(code: Code) -> StepError {
-        match code {
-            Code::OTHER_COMMITTEE => StepError::OtherCommittee,
-            Code::HISTORY_FULL => StepError::HistoryFull,
-            Code::BAD_ROUND => StepError::BadRound,
-            Code::NO_MEMORY => StepError::NoMemory,
-            other => other.unexpected(),
-        }
-    }
-}
-
-/// Implements `From<NoMemory>` for errors with a variant of this name.
-macro_rules! from_no_memory {
-    ($($name:ident),+) => {
-        $(impl From<NoMemory> for $name {
-            fn from(NoMemory: NoMemory) -> $name {
-                $name::NoMemory
-            }
-        })+
-    };
-}
-
-from_no_memory!(
-    AgreeError,
-    BlockError,
-    CheckError,
-    CommitteeError,
-    GatherError,
-    OpenError,
-    SettleError,
-    StepError
-);

@@ -1,7 +1,9 @@
 //! The events of histories.
 
 use crate::Digest;
-use crate::raw::{RawEvent, RawTagged, call, reply, unexpected_kind};
+use crate::code::read;
+use crate::ffi::{self, Handle};
+use crate::raw::{RawEvent, RawTagged, unexpected_kind};
 
 /// One call of a session, with its reply.
 #[derive(Clone, Copy, Debug, PartialEq, Eq)]
@@ -113,48 +115,58 @@ impl Event {
 }
 
 impl Call {
+    /// Decodes a call. The numbers are the kinds of calls in `nw.h`.
     fn of(raw: &RawTagged) -> Call {
         match raw.kind {
-            call::WRITE => Call::Write(raw.digest),
-            call::CERTIFY => Call::Certify(raw.digest),
-            call::CERTIFICATE => Call::Certificate(raw.digest),
-            call::READ => Call::Read(raw.digest),
-            call::CAUSAL => Call::Causal(raw.digest),
-            call::COLLECT => Call::Collect(raw.number),
-            call::MISSING => Call::Missing(raw.number as u16),
-            call::STATUS => Call::Status,
-            call::MISSING_OF => Call::MissingOf(raw.digest),
+            301 => Call::Write(raw.digest),
+            302 => Call::Certify(raw.digest),
+            303 => Call::Certificate(raw.digest),
+            304 => Call::Read(raw.digest),
+            305 => Call::Causal(raw.digest),
+            306 => Call::Collect(raw.number),
+            307 => Call::Missing(raw.number as u16),
+            308 => Call::Status,
+            309 => Call::MissingOf(raw.digest),
             other => unexpected_kind(other),
         }
     }
 }
 
 impl Reply {
+    /// The reply of an answer.
+    #[inline]
+    pub(crate) fn read(answer: &mut Handle) -> Reply {
+        let raw = read(RawTagged::EMPTY, |out| ffi::nw_answer_reply(answer, out));
+        Reply::of(&raw)
+    }
+
+    /// Decodes a reply. The numbers are the kinds of replies in `nw.h`.
+    #[inline]
     fn of(raw: &RawTagged) -> Reply {
         let (number, digest) = (raw.number, raw.digest);
         let garbage_round = number;
         match raw.kind {
-            reply::STORED_VOTE => Reply::Stored { vote: true },
-            reply::STORED => Reply::Stored { vote: false },
-            reply::HELD => Reply::Held,
-            reply::CLASH => Reply::Clash,
-            reply::EQUIVOCATES => Reply::Equivocates(digest),
-            reply::CERTIFIED => Reply::Certified,
-            reply::ALREADY => Reply::Already,
-            reply::CONFLICT => Reply::Conflict(digest),
-            reply::COLLECTED => Reply::Collected { garbage_round },
-            reply::TOO_FAR => Reply::TooFar,
-            reply::MISFIT => Reply::Misfit,
-            reply::FULL => Reply::Full,
-            reply::FOUND => Reply::Found,
-            reply::UNKNOWN => Reply::Unknown,
-            reply::UNCERTIFIED => Reply::Uncertified,
-            reply::INCOMPLETE => Reply::Incomplete,
-            reply::READY => Reply::Ready,
-            reply::RAISED => Reply::Raised { dropped: number },
-            reply::NOT_HIGHER => Reply::NotHigher { garbage_round },
-            reply::MISSING => Reply::Missing { listed: number },
-            reply::STATUS => Reply::Status,
+            201 => Reply::Stored { vote: true },
+            202 => Reply::Stored { vote: false },
+            203 => Reply::Held,
+            204 => Reply::Clash,
+            205 => Reply::Equivocates(digest),
+            206 => Reply::Certified,
+            207 => Reply::Already,
+            208 => Reply::Conflict(digest),
+            209 => Reply::Collected { garbage_round },
+            210 => Reply::TooFar,
+            211 => Reply::Misfit,
+            212 => Reply::Full,
+            213 => Reply::Found,
+            214 => Reply::Unknown,
+            215 => Reply::Uncertified,
+            216 => Reply::Incomplete,
+            217 => Reply::Ready,
+            218 => Reply::Raised { dropped: number },
+            219 => Reply::NotHigher { garbage_round },
+            220 => Reply::Missing { listed: number },
+            221 => Reply::Status,
             other => unexpected_kind(other),
         }
     }
@@ -164,7 +176,7 @@ impl Reply {
 mod tests {
     use super::{Call, Reply};
     use crate::Digest;
-    use crate::raw::{RawTagged, call, reply};
+    use crate::raw::RawTagged;
     use crate::reply::{CausalFault, CertifyReply, CollectReply, WriteReply};
 
     const DIGEST: Digest = Digest([9; 32]);
@@ -180,18 +192,18 @@ mod tests {
     #[test]
     fn each_kind_of_call_is_told() {
         let calls = [
-            (call::WRITE, Call::Write(DIGEST)),
-            (call::CERTIFY, Call::Certify(DIGEST)),
-            (call::CERTIFICATE, Call::Certificate(DIGEST)),
-            (call::READ, Call::Read(DIGEST)),
-            (call::CAUSAL, Call::Causal(DIGEST)),
-            (call::COLLECT, Call::Collect(7)),
-            (call::MISSING, Call::Missing(7)),
-            (call::STATUS, Call::Status),
-            (call::MISSING_OF, Call::MissingOf(DIGEST)),
+            Call::Write(DIGEST),
+            Call::Certify(DIGEST),
+            Call::Certificate(DIGEST),
+            Call::Read(DIGEST),
+            Call::Causal(DIGEST),
+            Call::Collect(7),
+            Call::Missing(7),
+            Call::Status,
+            Call::MissingOf(DIGEST),
         ];
-        for (place, (kind, call)) in (301..).zip(calls) {
-            assert_eq!((kind, Call::of(&raw(kind))), (place, call));
+        for (kind, call) in (301..).zip(calls) {
+            assert_eq!(Call::of(&raw(kind)), call);
         }
     }
 
@@ -201,48 +213,49 @@ mod tests {
     fn each_kind_of_reply_is_told() {
         let garbage_round = 7;
         let replies = [
-            (reply::STORED_VOTE, Reply::Stored { vote: true }),
-            (reply::STORED, Reply::Stored { vote: false }),
-            (reply::HELD, Reply::Held),
-            (reply::CLASH, Reply::Clash),
-            (reply::EQUIVOCATES, Reply::Equivocates(DIGEST)),
-            (reply::CERTIFIED, Reply::Certified),
-            (reply::ALREADY, Reply::Already),
-            (reply::CONFLICT, Reply::Conflict(DIGEST)),
-            (reply::COLLECTED, Reply::Collected { garbage_round }),
-            (reply::TOO_FAR, Reply::TooFar),
-            (reply::MISFIT, Reply::Misfit),
-            (reply::FULL, Reply::Full),
-            (reply::FOUND, Reply::Found),
-            (reply::UNKNOWN, Reply::Unknown),
-            (reply::UNCERTIFIED, Reply::Uncertified),
-            (reply::INCOMPLETE, Reply::Incomplete),
-            (reply::READY, Reply::Ready),
-            (reply::RAISED, Reply::Raised { dropped: 7 }),
-            (reply::NOT_HIGHER, Reply::NotHigher { garbage_round }),
-            (reply::MISSING, Reply::Missing { listed: 7 }),
-            (reply::STATUS, Reply::Status),
+            Reply::Stored { vote: true },
+            Reply::Stored { vote: false },
+            Reply::Held,
+            Reply::Clash,
+            Reply::Equivocates(DIGEST),
+            Reply::Certified,
+            Reply::Already,
+            Reply::Conflict(DIGEST),
+            Reply::Collected { garbage_round },
+            Reply::TooFar,
+            Reply::Misfit,
+            Reply::Full,
+            Reply::Found,
+            Reply::Unknown,
+            Reply::Uncertified,
+            Reply::Incomplete,
+            Reply::Ready,
+            Reply::Raised { dropped: 7 },
+            Reply::NotHigher { garbage_round },
+            Reply::Missing { listed: 7 },
+            Reply::Status,
         ];
-        for (place, (kind, reply)) in (201..).zip(replies) {
-            assert_eq!((kind, Reply::of(&raw(kind))), (place, reply));
+        for (kind, reply) in (201..).zip(replies) {
+            assert_eq!(Reply::of(&raw(kind)), reply);
         }
     }
 
     /// The same kinds, as a call answers them. Each has the name that it has in a history.
     #[test]
     fn each_call_answers_what_its_event_tells() {
-        let told = |kind| format!("{:?}", Reply::of(&raw(kind)));
+        let reply = |kind| Reply::of(&raw(kind));
+        let told = |kind| format!("{:?}", reply(kind));
         for kind in [201, 202, 203, 204, 205, 209, 210, 211, 212] {
-            assert_eq!(format!("{:?}", WriteReply::of(&raw(kind))), told(kind));
+            assert_eq!(format!("{:?}", WriteReply::of(reply(kind))), told(kind));
         }
         for kind in [206, 207, 208, 209, 210, 211, 212] {
-            assert_eq!(format!("{:?}", CertifyReply::of(&raw(kind))), told(kind));
+            assert_eq!(format!("{:?}", CertifyReply::of(reply(kind))), told(kind));
         }
         for kind in [218, 219] {
-            assert_eq!(format!("{:?}", CollectReply::of(&raw(kind))), told(kind));
+            assert_eq!(format!("{:?}", CollectReply::of(reply(kind))), told(kind));
         }
         for kind in [214, 215, 216] {
-            assert_eq!(format!("{:?}", CausalFault::of(&raw(kind))), told(kind));
+            assert_eq!(format!("{:?}", CausalFault::of(reply(kind))), told(kind));
         }
     }
 

@@ -1,7 +1,7 @@
 //! The faults of messages.
 
-use crate::error::error_texts;
-use crate::raw::{RawMessage, message, unexpected_kind};
+use crate::error::{error_texts, from_codes};
+use crate::raw::{RawMessage, unexpected_kind};
 use std::error::Error;
 use std::fmt;
 
@@ -105,22 +105,12 @@ pub enum CertificateFault {
     },
 }
 
-impl fmt::Display for CertificateFault {
-    fn fmt(&self, f: &mut fmt::Formatter<'_>) -> fmt::Result {
-        match self {
-            CertificateFault::Author => {
-                f.write_str("the author of the certified block is not a member")
-            }
-            CertificateFault::Signer => f.write_str("a signer is not a member"),
-            CertificateFault::FewVotes => f.write_str("the signers do not reach the quorum"),
-            CertificateFault::Signature { signer } => {
-                write!(f, "the signature of member {signer} does not verify")
-            }
-        }
-    }
-}
-
-impl Error for CertificateFault {}
+error_texts!(CertificateFault {
+    CertificateFault::Author => "the author of the certified block is not a member",
+    CertificateFault::Signer => "a signer is not a member",
+    CertificateFault::FewVotes => "the signers do not reach the quorum",
+    CertificateFault::Signature { signer } => "the signature of member {signer} does not verify",
+});
 
 impl fmt::Display for CheckError {
     fn fmt(&self, f: &mut fmt::Formatter<'_>) -> fmt::Result {
@@ -144,35 +134,33 @@ impl Error for CheckError {
     }
 }
 
+from_codes!(CheckError {});
+
 impl CheckError {
-    /// The fault that the library reported.
+    /// Decodes a fault. The numbers are the kinds of faults in `nw.h`.
     pub(crate) fn of(raw: &RawMessage) -> CheckError {
-        let text = |fault| CheckError::Text(fault);
-        let block = |fault| CheckError::Block(fault);
-        let certificate = |fault| CheckError::Certificate(fault);
+        use CheckError::{Block as block, Certificate as certificate, Text as text};
         match raw.kind {
-            message::TEXT_SHORT => text(TextFault::Short),
-            message::TEXT_TRAILING => text(TextFault::Trailing),
-            message::TEXT_TAG => text(TextFault::Tag),
-            message::TEXT_VERSION => text(TextFault::Version),
-            message::TEXT_MANY_PARENTS => text(TextFault::ManyParents),
-            message::TEXT_PARENT_ORDER => text(TextFault::ParentOrder),
-            message::TEXT_MANY_TRANSACTIONS => text(TextFault::ManyTransactions),
-            message::TEXT_LONG_TRANSACTION => text(TextFault::LongTransaction),
-            message::TEXT_LONG_BODY => text(TextFault::LongBody),
-            message::TEXT_MANY_VOTES => text(TextFault::ManyVotes),
-            message::TEXT_VOTE_ORDER => text(TextFault::VoteOrder),
-            message::BLOCK_AUTHOR => block(BlockFault::Author),
-            message::BLOCK_PARENT_AUTHOR => block(BlockFault::ParentAuthor),
-            message::BLOCK_GENESIS_PARENTS => block(BlockFault::GenesisParents),
-            message::BLOCK_FEW_PARENTS => block(BlockFault::FewParents),
-            message::BLOCK_SIGNATURE => block(BlockFault::Signature),
-            message::CERT_AUTHOR => certificate(CertificateFault::Author),
-            message::CERT_SIGNER => certificate(CertificateFault::Signer),
-            message::CERT_FEW_VOTES => certificate(CertificateFault::FewVotes),
-            message::CERT_SIGNATURE => {
-                certificate(CertificateFault::Signature { signer: raw.signer })
-            }
+            110 => text(TextFault::Short),
+            111 => text(TextFault::Trailing),
+            112 => text(TextFault::Tag),
+            113 => text(TextFault::Version),
+            114 => text(TextFault::ManyParents),
+            115 => text(TextFault::ParentOrder),
+            116 => text(TextFault::ManyTransactions),
+            117 => text(TextFault::LongTransaction),
+            118 => text(TextFault::LongBody),
+            119 => text(TextFault::ManyVotes),
+            120 => text(TextFault::VoteOrder),
+            130 => block(BlockFault::Author),
+            131 => block(BlockFault::ParentAuthor),
+            132 => block(BlockFault::GenesisParents),
+            133 => block(BlockFault::FewParents),
+            134 => block(BlockFault::Signature),
+            140 => certificate(CertificateFault::Author),
+            141 => certificate(CertificateFault::Signer),
+            142 => certificate(CertificateFault::FewVotes),
+            143 => certificate(CertificateFault::Signature { signer: raw.signer }),
             other => unexpected_kind(other),
         }
     }

@@ -42,6 +42,11 @@ impl Handle {
         }
     }
 
+    /// New room for an answer.
+    pub(crate) fn answer() -> Result<Handle, Code> {
+        Handle::opened(|out| nw_answer_new(out))
+    }
+
     #[inline]
     pub(crate) fn is_closed(&self) -> bool {
         self.0.is_null()
@@ -250,15 +255,7 @@ fn written(mut call: impl FnMut(*mut u8, usize, &mut usize) -> Code) -> Result<V
         Code::SMALL => {}
         refused => return Err(refused),
     }
-    filled(needed, call)
-}
-
-/// The bytes that a call writes into a buffer of this size.
-fn filled(
-    size: usize,
-    mut call: impl FnMut(*mut u8, usize, &mut usize) -> Code,
-) -> Result<Vec<u8>, Code> {
-    let (mut bytes, mut needed) = (Vec::with_capacity(size), 0);
+    let mut bytes = Vec::with_capacity(needed);
     call(bytes.as_mut_ptr(), bytes.capacity(), &mut needed).done()?;
     assert!(needed <= bytes.capacity());
     // SAFETY: a call that succeeded wrote the first `needed` bytes of the buffer.
@@ -279,16 +276,10 @@ pub(crate) fn checked_message_size(checked: &mut Handle) -> usize {
 /// All transactions of a block, one after another. `lengths` has a place for the length of each.
 pub(crate) fn block_transactions(block: &mut Handle, lengths: &mut [u32]) -> Result<Vec<u8>, Code> {
     let (places, count) = (lengths.as_mut_ptr(), lengths.len());
-    let mut call = |room, len, needed: &mut usize| {
+    written(|room, len, needed| {
         // SAFETY: each pointer has the length of its buffer, which may be written to.
         unsafe { nw_block_transactions(block, room, len, places, count, needed) }
-    };
-    let mut needed = 0;
-    match call(ptr::null_mut(), 0, &mut needed) {
-        Code::DONE => Ok(Vec::new()),
-        Code::SMALL => filled(needed, call),
-        refused => Err(refused),
-    }
+    })
 }
 
 /// What a store has in each slot of a round. `looks` has a place for each member.
@@ -364,7 +355,7 @@ pub(crate) fn block_new(
 
 #[cfg(test)]
 mod tests {
-    use super::{Handle, Spare, nw_answer_new, written};
+    use super::{Handle, Spare, written};
     use crate::code::Code;
     use std::sync::Barrier;
     use std::sync::atomic::{AtomicBool, Ordering};
@@ -396,7 +387,7 @@ mod tests {
     fn a_spare_handle_is_taken_by_one_thread() {
         let (spare, is_taken) = (Spare::new(), AtomicBool::new(false));
         let (start, is_wrong) = (Barrier::new(4), AtomicBool::new(false));
-        spare.put(Handle::opened(|out| nw_answer_new(out)).unwrap());
+        spare.put(Handle::answer().unwrap());
         let take = || {
             start.wait();
             let mut taken = 0;

@@ -1,10 +1,9 @@
 //! Gathering votes into certificates.
 
-use crate::code::Code;
-use crate::error::error_texts;
+use crate::debug::debug_by;
+use crate::error::coded_error;
 use crate::ffi::{self, Handle};
 use crate::{CheckedCertificate, CheckedVote, Committee, Subject};
-use std::fmt;
 
 /// The votes for one subject, gathered until they make a certificate.
 ///
@@ -51,9 +50,8 @@ impl Gather {
     /// - [`GatherError::BadRound`] if the subject's round is 2^48 or more.
     /// - [`GatherError::NoMember`] if the subject's author is not a member of the committee.
     pub fn new(committee: &Committee, subject: &Subject) -> Result<Gather, GatherError> {
-        let mut committee = committee.share().map_err(GatherError::of)?;
-        let handle = Handle::opened(|out| ffi::nw_gather_new(&mut committee, subject, out));
-        let handle = handle.map_err(GatherError::of)?;
+        let mut committee = committee.share()?;
+        let handle = Handle::opened(|out| ffi::nw_gather_new(&mut committee, subject, out))?;
         Ok(Gather {
             handle,
             subject: *subject,
@@ -82,8 +80,7 @@ impl Gather {
     /// - [`GatherError::NoMemory`] if the library could not allocate memory.
     pub fn add(&mut self, vote: &CheckedVote) -> Result<bool, GatherError> {
         let mut quorum = false;
-        let code = ffi::nw_gather_add(&mut self.handle, &mut vote.handle.lock(), &mut quorum);
-        code.done().map_err(GatherError::of)?;
+        ffi::nw_gather_add(&mut self.handle, &mut vote.handle.lock(), &mut quorum).done()?;
         Ok(quorum)
     }
 
@@ -93,18 +90,12 @@ impl Gather {
     ///
     /// [`GatherError::FewVotes`] if the votes do not reach the quorum.
     pub fn certificate(&mut self) -> Result<CheckedCertificate, GatherError> {
-        let handle = Handle::opened(|out| ffi::nw_gather_certificate(&mut self.handle, out));
-        handle.map(CheckedCertificate::of).map_err(GatherError::of)
+        let handle = Handle::opened(|out| ffi::nw_gather_certificate(&mut self.handle, out))?;
+        Ok(CheckedCertificate::of(handle))
     }
 }
 
-impl fmt::Debug for Gather {
-    fn fmt(&self, f: &mut fmt::Formatter<'_>) -> fmt::Result {
-        f.debug_struct("Gather")
-            .field("subject", &self.subject)
-            .finish_non_exhaustive()
-    }
-}
+debug_by!(Gather: subject);
 
 /// Why a vote is not counted, or why there is no certificate.
 #[derive(Clone, Copy, Debug, PartialEq, Eq)]
@@ -126,27 +117,11 @@ pub enum GatherError {
     NoMemory,
 }
 
-error_texts!(GatherError {
-    GatherError::NoMember => "the author of the block or the signer of the vote is not a member",
-    GatherError::BadRound => "the round is not below 2^48",
-    GatherError::OtherBlock => "the vote is for another block",
-    GatherError::Repeated => "a vote of this signer is counted already",
-    GatherError::BadSignature => "the vote's signature does not verify",
-    GatherError::FewVotes => "the votes do not reach the quorum",
-    GatherError::NoMemory => "out of memory",
+coded_error!(GatherError {
+    NoMember = NO_MEMBER => "the author of the block or the signer of the vote is not a member",
+    BadRound = BAD_ROUND => "the round is not below 2^48",
+    OtherBlock = OTHER_BLOCK => "the vote is for another block",
+    Repeated = REPEATED => "a vote of this signer is counted already",
+    BadSignature = BAD_SIGNATURE => "the vote's signature does not verify",
+    FewVotes = FEW_VOTES => "the votes do not reach the quorum",
 });
-
-impl GatherError {
-    fn of(code: Code) -> GatherError {
-        match code {
-            Code::NO_MEMBER => GatherError::NoMember,
-            Code::BAD_ROUND => GatherError::BadRound,
-            Code::OTHER_BLOCK => GatherError::OtherBlock,
-            Code::REPEATED => GatherError::Repeated,
-            Code::BAD_SIGNATURE => GatherError::BadSignature,
-            Code::FEW_VOTES => GatherError::FewVotes,
-            Code::NO_MEMORY => GatherError::NoMemory,
-            other => other.unexpected(),
-        }
-    }
-}

@@ -1,14 +1,16 @@
 //! The histories that explain answers.
 
 use crate::Event;
-use crate::code::Code;
+use crate::code::{Code, read};
+use crate::debug::debug_by;
 use crate::ffi;
+use crate::lock::Lock;
 use crate::raw::RawEvent;
 use crate::room::Room;
-use std::fmt;
 use std::iter::FusedIterator;
+use std::ops::Range;
 use std::ptr;
-use std::sync::{Mutex, MutexGuard, PoisonError};
+use std::sync::MutexGuard;
 
 /// The history that explains an answer: the events of the run up to the answered call, which is
 /// the last event. The history of a [`Note`](crate::Note) has the events up to the note.
@@ -39,36 +41,32 @@ use std::sync::{Mutex, MutexGuard, PoisonError};
 /// ```
 pub struct History {
     /// Only the threads that share a note wait for each other here.
-    room: Mutex<Room>,
+    room: Lock<Room>,
 }
 
 impl History {
     pub(crate) fn new(room: Room) -> History {
         History {
-            room: Mutex::new(room),
+            room: Lock::new(room),
         }
     }
 
     /// What has the history in the library, for one call.
     #[inline]
     pub(crate) fn room(&self) -> MutexGuard<'_, Room> {
-        // No call leaves a room half changed, so a panic of another thread does no harm.
-        self.room.lock().unwrap_or_else(PoisonError::into_inner)
+        self.room.lock()
     }
 
     /// The room, for good.
     #[inline]
     pub(crate) fn into_room(self) -> Room {
-        let room = self.room.into_inner();
-        room.unwrap_or_else(PoisonError::into_inner)
+        self.room.into_inner()
     }
 
     /// Returns the number of events. The history of an answer has at least 1.
     #[must_use]
     pub fn len(&self) -> usize {
-        let mut events = 0;
-        ffi::nw_answer_events(&mut self.room(), &mut events).or_abort();
-        events
+        read(0, |out| ffi::nw_answer_events(&mut self.room(), out))
     }
 
     /// Returns whether there are no events. This is `false` for the history of an answer.
@@ -93,8 +91,7 @@ impl History {
     pub fn events(&self) -> Events<'_> {
         Events {
             history: self,
-            next: 0,
-            len: self.len(),
+            left: 0..self.len(),
         }
     }
 
@@ -111,9 +108,9 @@ impl History {
             return true;
         }
         let (mut this, mut other) = both(self, other);
-        let mut is_prefix = false;
-        ffi::nw_answer_is_prefix(&mut this, &mut other, &mut is_prefix).or_abort();
-        is_prefix
+        read(false, |out| {
+            ffi::nw_answer_is_prefix(&mut this, &mut other, out)
+        })
     }
 }
 
@@ -132,13 +129,7 @@ pub(crate) fn both<'a>(
     }
 }
 
-impl fmt::Debug for History {
-    fn fmt(&self, f: &mut fmt::Formatter<'_>) -> fmt::Result {
-        f.debug_struct("History")
-            .field("len", &self.len())
-            .finish_non_exhaustive()
-    }
-}
+debug_by!(History: len);
 
 impl<'a> IntoIterator for &'a History {
     type Item = Event;
@@ -153,30 +144,22 @@ impl<'a> IntoIterator for &'a History {
 #[derive(Clone, Debug)]
 pub struct Events<'a> {
     history: &'a History,
-    next: usize,
-    len: usize,
+    left: Range<usize>,
 }
 
 impl Iterator for Events<'_> {
     type Item = Event;
 
     fn next(&mut self) -> Option<Event> {
-        if self.next == self.len {
-            return None;
-        }
-        let event = self.history.event(self.next)?;
-        self.next += 1;
-        Some(event)
+        self.left.next().and_then(|index| self.history.event(index))
     }
 
     fn size_hint(&self) -> (usize, Option<usize>) {
-        let left = self.len - self.next;
-        (left, Some(left))
+        self.left.size_hint()
     }
 
-    fn nth(&mut self, skipped: usize) -> Option<Event> {
-        self.next = self.next.saturating_add(skipped).min(self.len);
-        self.next()
+    fn nth(&mut self, n: usize) -> Option<Event> {
+        self.left.nth(n).and_then(|index| self.history.event(index))
     }
 }
 
@@ -184,11 +167,8 @@ impl ExactSizeIterator for Events<'_> {}
 
 impl DoubleEndedIterator for Events<'_> {
     fn next_back(&mut self) -> Option<Event> {
-        if self.next == self.len {
-            return None;
-        }
-        self.len -= 1;
-        self.history.event(self.len)
+        let index = self.left.next_back()?;
+        self.history.event(index)
     }
 }
 

@@ -1,8 +1,9 @@
 //! Checking many messages with several threads.
 
+use crate::lock::Lock;
 use crate::message::check_with;
 use crate::{CheckError, Checked, Committee};
-use std::sync::atomic::{AtomicUsize, Ordering};
+use std::iter;
 use std::thread::{self, Builder, ScopedJoinHandle};
 
 /// The most threads that one call of [`check_all`] uses.
@@ -38,12 +39,12 @@ pub fn check_all(
     threads: usize,
 ) -> Vec<Result<Checked, CheckError>> {
     let threads = threads.min(messages.len()).clamp(1, MOST_THREADS);
-    let next = AtomicUsize::new(0);
-    let work = || check_some(committee, messages, &next);
-    let mut all: Vec<Option<Outcome>> = messages.iter().map(|_| None).collect();
+    let left = Lock::new(messages.iter().enumerate());
+    let work = || check_some(committee, &left);
+    let mut all = vec![Err(CheckError::NoMemory); messages.len()];
     let mut keep = |some: Vec<(usize, Outcome)>| {
         for (index, outcome) in some {
-            all[index] = Some(outcome);
+            all[index] = outcome;
         }
     };
     thread::scope(|scope| {
@@ -58,33 +59,22 @@ pub fn check_all(
             );
         }
     });
-    let no_memory = || Err(CheckError::NoMemory);
-    all.into_iter()
-        .map(|outcome| outcome.unwrap_or_else(no_memory))
-        .collect()
+    all
 }
 
-/// Checks one message after another that no thread has taken yet. If memory for a handle of the
-/// committee runs out, it checks none.
-fn check_some(
+/// Checks one message after another of those that no thread has taken yet. If memory for a handle of
+/// the committee runs out, it checks none.
+fn check_some<'a, M: AsRef<[u8]> + 'a>(
     committee: &Committee,
-    messages: &[impl AsRef<[u8]>],
-    next: &AtomicUsize,
+    left: &Lock<impl Iterator<Item = (usize, &'a M)>>,
 ) -> Vec<(usize, Outcome)> {
-    let mut outcomes = Vec::new();
     let Ok(mut committee) = committee.share() else {
-        return outcomes;
+        return Vec::new();
     };
-    while let Some((index, message)) = take(messages, next) {
-        outcomes.push((index, check_with(&mut committee, message.as_ref())));
-    }
-    outcomes
-}
-
-/// The next message that no thread has taken, with its index.
-fn take<'a, T>(messages: &'a [T], next: &AtomicUsize) -> Option<(usize, &'a T)> {
-    let index = next.fetch_add(1, Ordering::Relaxed);
-    Some((index, messages.get(index)?))
+    let taken = iter::from_fn(|| left.lock().next());
+    taken
+        .map(|(index, message)| (index, check_with(&mut committee, message.as_ref())))
+        .collect()
 }
 
 #[cfg(test)]

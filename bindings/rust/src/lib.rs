@@ -95,6 +95,7 @@ mod caller;
 mod checked;
 mod code;
 mod committee;
+mod debug;
 mod error;
 mod event;
 mod fault;
@@ -103,6 +104,7 @@ mod gather;
 mod history;
 mod intake;
 mod limits;
+mod lock;
 mod look;
 mod message;
 #[cfg(test)]
@@ -156,29 +158,22 @@ pub use walk::Walk;
 /// - `none`: the environment variable `DOCS_RS` was set, so that only the documents were built.
 pub const ARCHIVE: &str = env!("NW_ARCHIVE");
 
-/// The types that can be sent to another thread, and those that can be shared.
+/// The types that can be sent to another thread, and those that can be shared too.
 const _: () = {
-    const fn send<T: Send>() {}
-    const fn sync<T: Sync>() {}
-    send::<Committee>();
-    sync::<Committee>();
-    send::<Store>();
-    sync::<Store>();
-    send::<Session>();
-    send::<Block>();
-    sync::<Block>();
-    send::<Checked>();
-    sync::<Checked>();
-    send::<Gather>();
-    send::<Answer<WriteReply>>();
-    send::<Causal>();
-    send::<History>();
-    sync::<History>();
-    send::<Note>();
-    sync::<Note>();
-    send::<Settled>();
-    send::<Unsettled>();
-    send::<Ticket>();
-    send::<Walk>();
-    sync::<Walk>();
+    const fn sent<T: Send>() {}
+    const fn shared<T: Send + Sync>() {}
+    shared::<Committee>();
+    shared::<Store>();
+    sent::<Session>();
+    shared::<Block>();
+    shared::<Checked>();
+    sent::<Gather>();
+    sent::<Answer<WriteReply>>();
+    sent::<Causal>();
+    shared::<History>();
+    shared::<Note>();
+    sent::<Settled>();
+    sent::<Unsettled>();
+    sent::<Ticket>();
+    shared::<Walk>();
 };

@@ -32,17 +32,6 @@ impl Look {
         }
     }
 
-    /// A look that finds no digest.
-    pub(crate) fn nothing(garbage_round: u64) -> Look {
-        Look {
-            garbage_round,
-            first: None,
-            certified: None,
-            stands: false,
-            complete: false,
-        }
-    }
-
     /// Returns whether a parent with this digest is satisfied, for a block of the next round whose
     /// parent has this look's author: its block is stored and certified.
     ///

@@ -1,10 +1,13 @@
 //! Messages and their check.
 
-use crate::checked::SharedHandle;
-use crate::code::Code;
+use crate::code::read;
 use crate::ffi::{self, Handle};
-use crate::raw::{RawMessage, message};
-use crate::{CheckError, Checked, CheckedBlock, CheckedCertificate, CheckedVote, Committee};
+use crate::lock::Lock;
+use crate::raw::RawMessage;
+use crate::{
+    CheckError, Checked, CheckedBlock, CheckedCertificate, CheckedVote, Committee, Peek, Signature,
+};
+use std::sync::Arc;
 
 /// The messages that validators send one another: signed blocks, certificates and votes.
 ///
@@ -57,38 +60,37 @@ impl Message {
     /// [`Gather::add`]: crate::Gather::add
     /// [`Gather::certificate`]: crate::Gather::certificate
     pub fn check(committee: &Committee, message: &[u8]) -> Result<Checked, CheckError> {
-        match committee.share() {
-            Ok(mut committee) => check_with(&mut committee, message),
-            Err(refused) => Err(refused.no_memory().into()),
-        }
+        check_with(&mut committee.share()?, message)
     }
 }
 
 /// The bytes of a block's message around its body: the tag and the signature.
-const AROUND_A_BODY: u64 = 65;
+const AROUND_A_BODY: u64 = 1 + size_of::<Signature>() as u64;
 
 /// Checks a message under the committee of the handle.
 pub(crate) fn check_with(committee: &mut Handle, message: &[u8]) -> Result<Checked, CheckError> {
-    let mut handle = ffi::check(committee, message).map_err(Code::no_memory)?;
-    let mut raw = RawMessage::EMPTY;
-    ffi::nw_checked_kind(&mut handle, &mut raw).or_abort();
-    let (handle, subject, length) = (SharedHandle::new(handle), raw.subject, message.len() as u64);
-    match raw.kind {
-        message::BLOCK => Ok(Checked::Block(CheckedBlock {
+    let mut handle = ffi::check(committee, message)?;
+    let raw = read(RawMessage::EMPTY, |out| {
+        ffi::nw_checked_kind(&mut handle, out)
+    });
+    let (handle, subject) = (Arc::new(Lock::new(handle)), raw.subject);
+    let length = message.len() as u64;
+    match Peek::of(&raw) {
+        Some(Peek::Block { .. }) => Ok(Checked::Block(CheckedBlock {
             handle,
             subject,
             size: length - AROUND_A_BODY,
         })),
-        message::CERTIFICATE => Ok(Checked::Certificate(CheckedCertificate {
+        Some(Peek::Certificate(_)) => Ok(Checked::Certificate(CheckedCertificate {
             handle,
             subject,
             size: length,
         })),
-        message::VOTE => Ok(Checked::Vote(CheckedVote {
+        Some(Peek::Vote { signer, .. }) => Ok(Checked::Vote(CheckedVote {
             handle,
             subject,
-            signer: raw.signer,
+            signer,
         })),
-        _ => Err(CheckError::of(&raw)),
+        None => Err(CheckError::of(&raw)),
     }
 }

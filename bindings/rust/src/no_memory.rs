@@ -1,13 +1,12 @@
 //! Tests that fail each allocation of the library in turn, and tests that count what is not freed.
 
 use crate::ffi::{Handle, Spare};
-use crate::raw::tagged;
 use crate::room::Room;
 use crate::settled::Given;
 use crate::{
     AgreeError, Block, BlockError, Causal, CheckError, Checked, CheckedBlock, CheckedCertificate,
     CheckedVote, Committee, CommitteeError, Digest, Gather, GatherError, History, Limits, Message,
-    NoMemory, OpenError, Session, SettleError, Status, StepError, Store, Ticket, check_all,
+    NoMemory, OpenError, Reply, Session, SettleError, Status, StepError, Store, Ticket, check_all,
 };
 use std::cell::Cell;
 use std::ffi::c_void;
@@ -385,7 +384,7 @@ fn what_cannot_be_read_is_not_empty() {
     refuses(|| Ticket::new(closed_room()).digest());
     refuses(|| Ticket::new(closed_room()).walk());
     refuses(|| Causal::of(closed_room()));
-    refuses(|| tagged(&mut closed()));
+    refuses(|| Reply::read(&mut closed()));
     refuses(|| CheckedCertificate::of(closed()));
 }
 

@@ -3,15 +3,13 @@
 use crate::ffi::Handle;
 use crate::room::Room;
 use crate::{Events, History};
-use std::fmt;
-use std::ops::DerefMut;
 use std::sync::Arc;
 
 /// The history of a store at some moment. [`Session::note`](crate::Session::note) takes it, and
 /// [`Session::hear`](crate::Session::hear) hears it.
 ///
 /// A clone shares the note, and costs one atomic increment. The type is `Send` and `Sync`.
-#[derive(Clone)]
+#[derive(Clone, Debug)]
 pub struct Note {
     history: Arc<History>,
 }
@@ -33,18 +31,5 @@ impl Note {
     #[must_use]
     pub fn events(&self) -> Events<'_> {
         self.history.events()
-    }
-
-    /// The note in the library, for one call.
-    pub(crate) fn room(&self) -> impl DerefMut<Target = Room> {
-        self.history.room()
-    }
-}
-
-impl fmt::Debug for Note {
-    fn fmt(&self, f: &mut fmt::Formatter<'_>) -> fmt::Result {
-        f.debug_struct("Note")
-            .field("history", &self.history)
-            .finish()
     }
 }

@@ -1,6 +1,7 @@
 //! The parents and transactions of a block.
 
 use crate::Digest;
+use crate::code::{Code, read};
 use crate::ffi::{self, Handle};
 use crate::raw::RawParent;
 use std::fmt;
@@ -21,8 +22,9 @@ impl Parts {
         let (mut parents, mut transactions) = (0, 0);
         ffi::nw_block_counts(block, &mut parents, &mut transactions).or_abort();
         let parent = |index| {
-            let mut raw = RawParent::EMPTY;
-            ffi::nw_block_parent(block, index, &mut raw).or_abort();
+            let raw = read(RawParent::EMPTY, |out| {
+                ffi::nw_block_parent(block, index, out)
+            });
             (raw.author, raw.digest)
         };
         let parents = (0..parents).map(parent).collect();
@@ -30,7 +32,7 @@ impl Parts {
         let bytes = ffi::block_transactions(block, &mut lengths);
         Parts {
             parents,
-            bytes: bytes.unwrap_or_else(|code| code.abort()),
+            bytes: bytes.unwrap_or_else(Code::abort),
             lengths,
         }
     }

@@ -1,7 +1,7 @@
 //! What the first bytes of a message say.
 
 use crate::ffi;
-use crate::raw::{message as kind, unexpected_kind};
+use crate::raw::{RawMessage, unexpected_kind};
 use crate::{Message, Subject};
 
 /// What the first bytes of a message say, before any check. See [`Message::peek`].
@@ -26,6 +26,19 @@ pub enum Peek {
 }
 
 impl Peek {
+    /// Decodes the kind of a message. The numbers are the kinds of messages in `nw.h`. Returns `None`
+    /// for the kind of a fault.
+    pub(crate) fn of(raw: &RawMessage) -> Option<Peek> {
+        let (subject, signer) = (raw.subject, raw.signer);
+        let Subject { round, author, .. } = subject;
+        match raw.kind {
+            101 => Some(Peek::Block { round, author }),
+            102 => Some(Peek::Certificate(subject)),
+            103 => Some(Peek::Vote { subject, signer }),
+            _ => None,
+        }
+    }
+
     /// Returns the round of the block, or of the block that the certificate or vote is for.
     #[must_use]
     pub fn round(&self) -> u64 {
@@ -82,19 +95,7 @@ impl Message {
     #[must_use]
     pub fn peek(message: &[u8]) -> Option<Peek> {
         let raw = ffi::peek(message)?;
-        let subject = raw.subject;
-        match raw.kind {
-            kind::BLOCK => Some(Peek::Block {
-                round: subject.round,
-                author: subject.author,
-            }),
-            kind::CERTIFICATE => Some(Peek::Certificate(subject)),
-            kind::VOTE => Some(Peek::Vote {
-                subject,
-                signer: raw.signer,
-            }),
-            other => unexpected_kind(other),
-        }
+        Peek::of(&raw).or_else(|| unexpected_kind(raw.kind))
     }
 }
 

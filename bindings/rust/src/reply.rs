@@ -1,8 +1,9 @@
 //! Replies to calls.
 
-use crate::Digest;
 use crate::error::error_texts;
-use crate::raw::{RawTagged, reply, unexpected_kind};
+use crate::ffi::Handle;
+use crate::raw::unexpected_kind;
+use crate::{Digest, Reply};
 
 /// The reply to [`Session::write`](crate::Session::write).
 ///
@@ -135,63 +136,38 @@ impl Status {
     };
 }
 
-impl WriteReply {
-    #[inline]
-    pub(crate) fn of(raw: &RawTagged) -> WriteReply {
-        let garbage_round = raw.number;
-        match raw.kind {
-            reply::STORED_VOTE => WriteReply::Stored { vote: true },
-            reply::STORED => WriteReply::Stored { vote: false },
-            reply::HELD => WriteReply::Held,
-            reply::CLASH => WriteReply::Clash,
-            reply::MISFIT => WriteReply::Misfit,
-            reply::EQUIVOCATES => WriteReply::Equivocates(raw.digest),
-            reply::COLLECTED => WriteReply::Collected { garbage_round },
-            reply::TOO_FAR => WriteReply::TooFar,
-            reply::FULL => WriteReply::Full,
-            other => unexpected_kind(other),
+/// Converts a [`Reply`] to the reply type of one call. The variants have the same names.
+macro_rules! of_reply {
+    ($name:ident { $($variant:ident $(($digest:ident))? $({ $number:ident })?),+ }) => {
+        impl $name {
+            /// The reply of an answer to that call.
+            #[inline]
+            pub(crate) fn read(answer: &mut Handle) -> $name {
+                $name::of(Reply::read(answer))
+            }
+
+            #[inline]
+            pub(crate) fn of(reply: Reply) -> $name {
+                match reply {
+                    $(Reply::$variant $(($digest))? $({ $number })? => {
+                        $name::$variant $(($digest))? $({ $number })?
+                    })+
+                    other => unexpected_kind(other),
+                }
+            }
         }
-    }
+    };
 }
 
-impl CertifyReply {
-    #[inline]
-    pub(crate) fn of(raw: &RawTagged) -> CertifyReply {
-        let garbage_round = raw.number;
-        match raw.kind {
-            reply::CERTIFIED => CertifyReply::Certified,
-            reply::ALREADY => CertifyReply::Already,
-            reply::MISFIT => CertifyReply::Misfit,
-            reply::CONFLICT => CertifyReply::Conflict(raw.digest),
-            reply::COLLECTED => CertifyReply::Collected { garbage_round },
-            reply::TOO_FAR => CertifyReply::TooFar,
-            reply::FULL => CertifyReply::Full,
-            other => unexpected_kind(other),
-        }
-    }
-}
-
-impl CollectReply {
-    pub(crate) fn of(raw: &RawTagged) -> CollectReply {
-        match raw.kind {
-            reply::RAISED => CollectReply::Raised {
-                dropped: raw.number,
-            },
-            reply::NOT_HIGHER => CollectReply::NotHigher {
-                garbage_round: raw.number,
-            },
-            other => unexpected_kind(other),
-        }
-    }
-}
-
-impl CausalFault {
-    pub(crate) fn of(raw: &RawTagged) -> CausalFault {
-        match raw.kind {
-            reply::UNKNOWN => CausalFault::Unknown,
-            reply::UNCERTIFIED => CausalFault::Uncertified,
-            reply::INCOMPLETE => CausalFault::Incomplete,
-            other => unexpected_kind(other),
-        }
-    }
-}
+of_reply!(WriteReply {
+    Stored { vote }, Collected { garbage_round }, TooFar, Held, Clash, Misfit, Equivocates(digest), Full
+});
+of_reply!(CertifyReply {
+    Certified, Collected { garbage_round }, TooFar, Already, Misfit, Conflict(digest), Full
+});
+of_reply!(CollectReply { Raised { dropped }, NotHigher { garbage_round } });
+of_reply!(CausalFault {
+    Unknown,
+    Uncertified,
+    Incomplete
+});

@@ -1,8 +1,8 @@
 //! Rooms for answers, made before the calls, and the bytes that their events take.
 
+use crate::Reply;
 use crate::code::Code;
-use crate::ffi::{self, Handle, Spare};
-use crate::raw::{reply, tagged};
+use crate::ffi::{Handle, Spare};
 use std::mem;
 use std::ops::{Deref, DerefMut};
 use std::sync::Arc;
@@ -21,7 +21,7 @@ impl Room {
     pub(crate) fn new(spare: &Arc<Spare>) -> Result<Room, Code> {
         let mut handle = spare.take();
         if handle.is_closed() {
-            handle = Handle::opened(|out| ffi::nw_answer_new(out))?;
+            handle = Handle::answer()?;
         }
         Ok(Room {
             handle,
@@ -29,7 +29,8 @@ impl Room {
         })
     }
 
-    /// The room of a note.
+    /// The room of a note. The store does not keep it when the note is dropped, because it would
+    /// keep the note's history too.
     pub(crate) fn own(handle: Handle) -> Room {
         Room {
             handle,
@@ -39,7 +40,7 @@ impl Room {
 
     /// Replaces the answer by new room, and returns the answer.
     pub(crate) fn renew(&mut self) -> Result<Handle, Code> {
-        let new = Handle::opened(|out| ffi::nw_answer_new(out))?;
+        let new = Handle::answer()?;
         Ok(mem::replace(&mut self.handle, new))
     }
 
@@ -85,78 +86,47 @@ pub(crate) enum Content {
     Small,
     /// The numbers of a collection.
     Collection,
-    /// A block, and the bytes of its body.
-    Block(u64),
-    /// A certificate, and the bytes of its message.
-    Certificate(u64),
+    /// A block or a certificate: the bytes of the block's body, or of the certificate's message.
+    HandedIn(u64),
     /// A list of at most this many missing parents.
     Parents(u16),
-    /// A list of missing parents of one block.
-    ParentsOfOne,
-}
-
-/// Whether the event of an answer with this reply has the block or the certificate.
-fn keeps(kind: i32) -> bool {
-    matches!(
-        kind,
-        reply::STORED_VOTE | reply::STORED | reply::CLASH | reply::CERTIFIED
-    )
-}
-
-/// Whether a call with this reply changed the store.
-fn changes(kind: i32) -> bool {
-    matches!(
-        kind,
-        reply::STORED_VOTE | reply::STORED | reply::CERTIFIED | reply::RAISED
-    )
 }
 
 impl Content {
+    /// A list of missing parents of one block: at most one of each member of the largest committee.
+    pub(crate) const PARENTS_OF_ONE: Content = Content::Parents(100);
     /// The bytes of any event.
     const EVENT: u64 = 150;
     /// The bytes around a body or a certificate.
     const HANDED_IN: u64 = 150;
     /// The bytes of a listed parent.
     const PARENT: u64 = 48;
-    /// The most parents of a block: one of each member of the largest committee.
-    const PARENTS_OF_ONE: u64 = 100;
 
     /// The most bytes that the event can take.
     #[inline]
     pub(crate) fn most(self) -> u64 {
-        match self {
-            Content::Small | Content::Collection => Content::EVENT,
-            Content::Block(bytes) | Content::Certificate(bytes) => {
-                Content::EVENT + Content::HANDED_IN + bytes
+        Content::EVENT
+            + match self {
+                Content::Small | Content::Collection => 0,
+                Content::HandedIn(bytes) => Content::HANDED_IN + bytes,
+                Content::Parents(most) => Content::PARENT * u64::from(most),
             }
-            Content::ParentsOfOne => Content::EVENT + Content::PARENT * Content::PARENTS_OF_ONE,
-            Content::Parents(most) => Content::EVENT + Content::PARENT * u64::from(most),
-        }
     }
 
-    /// Whether the answered call changed the store.
+    /// The bytes that the event of the answer takes, and whether the call changed the store. The
+    /// event has the block or the certificate only if the call stored it, or if the reply is
+    /// `Clash`.
     #[inline]
-    pub(crate) fn is_change(self, answer: &mut Handle) -> bool {
-        match self {
-            Content::Block(_) | Content::Certificate(_) | Content::Collection => {
-                changes(tagged(answer).kind)
-            }
-            Content::Small | Content::Parents(_) | Content::ParentsOfOne => false,
+    pub(crate) fn outcome(self, answer: &mut Handle) -> (u64, bool) {
+        if let Content::Small = self {
+            return (self.most(), false);
         }
-    }
-
-    /// The bytes that the event of the answer takes. It has the block or the certificate only if the
-    /// call stored it, or if the reply is `Clash`.
-    #[inline]
-    pub(crate) fn bytes(self, answer: &mut Handle) -> u64 {
-        match self {
-            Content::Block(_) | Content::Certificate(_) if !keeps(tagged(answer).kind) => {
-                Content::EVENT
-            }
-            Content::Parents(_) | Content::ParentsOfOne => {
-                Content::EVENT + Content::PARENT * tagged(answer).number
-            }
-            _ => self.most(),
-        }
+        let (held, is_change) = match Reply::read(answer) {
+            Reply::Stored { .. } | Reply::Certified | Reply::Raised { .. } => (self, true),
+            Reply::Clash => (self, false),
+            Reply::Missing { listed } => (Content::Parents(listed as u16), false),
+            _ => (Content::Small, false),
+        };
+        (held.most(), is_change)
     }
 }

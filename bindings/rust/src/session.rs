@@ -3,14 +3,15 @@
 use crate::answer::Answer;
 use crate::block::Source;
 use crate::caller::Caller;
-use crate::code::Code;
+use crate::code::{Code, read};
+use crate::debug::debug_by;
 use crate::ffi::{self, Handle};
-use crate::raw::{RawAuthorLook, RawLook, reply, tagged};
+use crate::lock::Lock;
+use crate::raw::{RawAuthorLook, RawLook, unexpected_kind};
 use crate::room::{Content, Room};
 use crate::store::Inner;
 use crate::{Block, Causal, CertifyReply, CheckedBlock, CheckedCertificate, CollectReply, Digest};
-use crate::{Look, NoMemory, Note, Status, StepError, Subject, WriteReply};
-use std::fmt;
+use crate::{Look, NoMemory, Note, Reply, Status, StepError, Subject, WriteReply};
 use std::sync::Arc;
 
 /// One caller of a store. [`Store::session`](crate::Store::session) makes it.
@@ -112,11 +113,8 @@ impl Session {
     /// # Ok::<(), Box<dyn std::error::Error>>(())
     /// ```
     pub fn write(&mut self, block: &CheckedBlock) -> Result<Answer<WriteReply>, StepError> {
-        let content = Content::Block(block.size);
-        let answer = self.hand_in(content, &mut block.handle.lock())?;
-        Ok(Answer::new(answer, |answer, _| {
-            WriteReply::of(&tagged(answer))
-        }))
+        let answer = self.hand_in(block.size, &block.handle)?;
+        Ok(Answer::new(answer, |answer, _| WriteReply::read(answer)))
     }
 
     /// Hands in a certificate. The store has it if the reply is [`CertifyReply::Certified`] or
@@ -132,11 +130,8 @@ impl Session {
         &mut self,
         certificate: &CheckedCertificate,
     ) -> Result<Answer<CertifyReply>, StepError> {
-        let content = Content::Certificate(certificate.size);
-        let answer = self.hand_in(content, &mut certificate.handle.lock())?;
-        Ok(Answer::new(answer, |answer, _| {
-            CertifyReply::of(&tagged(answer))
-        }))
+        let answer = self.hand_in(certificate.size, &certificate.handle)?;
+        Ok(Answer::new(answer, |answer, _| CertifyReply::read(answer)))
     }
 
     /// Looks up the certificate of a digest. The reply is its message, or `None` if there is no
@@ -224,9 +219,7 @@ impl Session {
         let answer = self.step(Content::Collection, |session, answer| {
             ffi::nw_session_collect(session, round, answer)
         })?;
-        Ok(Answer::new(answer, |answer, _| {
-            CollectReply::of(&tagged(answer))
-        }))
+        Ok(Answer::new(answer, |answer, _| CollectReply::read(answer)))
     }
 
     /// Lists missing parents: blocks that a stored block above the garbage round refers to, and
@@ -273,7 +266,7 @@ impl Session {
         &mut self,
         digest: &Digest,
     ) -> Result<Answer<Option<Vec<Subject>>>, StepError> {
-        let answer = self.step(Content::ParentsOfOne, |session, answer| {
+        let answer = self.step(Content::PARENTS_OF_ONE, |session, answer| {
             ffi::nw_session_missing_of(session, digest, answer)
         })?;
         Ok(Answer::new(answer, |answer, _| missing_of(answer)))
@@ -323,7 +316,11 @@ impl Session {
         match look(round, author) {
             Code::BAD_ROUND => {
                 look(0, 0).or_abort();
-                Look::nothing(raw.garbage_round)
+                let garbage_round = raw.garbage_round;
+                Look::of(&RawLook {
+                    garbage_round,
+                    ..RawLook::EMPTY
+                })
             }
             code => {
                 code.or_abort();
@@ -361,13 +358,13 @@ impl Session {
     /// # Ok::<(), Box<dyn std::error::Error>>(())
     /// ```
     pub fn look_round(&mut self, round: u64) -> Result<Vec<(u16, Look)>, NoMemory> {
-        let mut looks = vec![RawAuthorLook::EMPTY; self.store.committee().size()];
+        let mut looks = vec![RawAuthorLook::EMPTY; self.store.committee.size()];
         let mut found = 0;
         let look =
             |session: &mut _| ffi::session_look_round(session, round, &mut looks, &mut found);
         match self.in_turn(look) {
             Code::BAD_ROUND => return Ok(Vec::new()),
-            code => code.or_no_memory()?,
+            code => code.done()?,
         }
         let pair = |raw: &RawAuthorLook| (raw.author, Look::of(&raw.look));
         Ok(looks[..found].iter().map(pair).collect())
@@ -397,10 +394,10 @@ impl Session {
     /// # Ok::<(), Box<dyn std::error::Error>>(())
     /// ```
     pub fn note(&mut self) -> Result<Note, StepError> {
-        let mut room = room_of_a_note()?;
-        let code = self.in_turn(|session| ffi::nw_session_note(session, &mut room));
-        code.done().map_err(StepError::of)?;
-        Ok(Note::new(room))
+        let mut note = Handle::answer()?;
+        let take = |session: &mut _| ffi::nw_session_note(session, &mut note);
+        self.in_turn(take).done()?;
+        Ok(Note::new(note))
     }
 
     /// Hears a note of another session. Returns whether the note is a prefix of the history of the
@@ -417,14 +414,14 @@ impl Session {
     ///
     /// [`StepError::NoMemory`] if the library could not allocate memory.
     pub fn hear(&mut self, note: &Note) -> Result<bool, StepError> {
-        let mut note = note.room();
+        let mut note = note.history().room();
         // The library compares the events without its lock, so this takes no turn.
         let mut turn = self.store.turns.none();
         let hear = |session: &mut _| ffi::nw_session_hear(session, &mut note);
         match turn.call(&mut self.caller, hear) {
             Code::DONE => Ok(true),
             Code::OTHER_HISTORY => Ok(false),
-            refused => Err(StepError::of(refused)),
+            refused => Err(refused.into()),
         }
     }
 
@@ -458,26 +455,23 @@ impl Session {
     /// # Ok::<(), Box<dyn std::error::Error>>(())
     /// ```
     pub fn restart(&mut self) -> Result<Note, StepError> {
-        let mut last = room_of_a_note()?;
+        let mut last = Handle::answer()?;
         let mut turn = self.store.turns.take();
-        let mut code = turn.restart(&mut self.caller, &mut last);
-        while code == Code::ENDED {
-            code = match turn.renew(&mut self.caller) {
-                Code::DONE => turn.restart(&mut self.caller, &mut last),
-                refused => refused,
-            };
-        }
+        let restart = |session: &mut _| ffi::nw_session_restart(session, &mut last);
+        let code = turn.call(&mut self.caller, restart);
+        turn.enter(&mut self.caller);
         drop(turn);
         // A dropped answer has a part of the old history.
         drop(self.store.spare.take());
-        code.done().map_err(StepError::of)?;
+        code.done()?;
         Ok(Note::new(last))
     }
 
-    /// Writes a block, or hands in a certificate.
-    fn hand_in(&mut self, content: Content, checked: &mut Handle) -> Result<Room, StepError> {
-        self.step(content, |session, answer| {
-            ffi::nw_session_hand_in(session, checked, answer)
+    /// Hands in a block or a certificate. `size` is that of [`Content::HandedIn`].
+    fn hand_in(&mut self, size: u64, checked: &Lock<Handle>) -> Result<Room, StepError> {
+        let mut checked = checked.lock();
+        self.step(Content::HandedIn(size), |session, answer| {
+            ffi::nw_session_hand_in(session, &mut checked, answer)
         })
     }
 
@@ -489,7 +483,7 @@ impl Session {
         content: Content,
         call: impl FnMut(&mut Handle, &mut Handle) -> Code,
     ) -> Result<Room, StepError> {
-        let mut room = self.store.room().map_err(StepError::of)?;
+        let mut room = Room::new(&self.store.spare)?;
         self.store
             .step(&mut self.caller, content, &mut room, call)?;
         Ok(room)
@@ -499,12 +493,6 @@ impl Session {
     fn in_turn(&mut self, call: impl FnMut(&mut Handle) -> Code) -> Code {
         self.store.turns.take().call(&mut self.caller, call)
     }
-}
-
-/// Room for a note. The store does not keep it when the note is dropped, because it would keep the
-/// note's history too.
-fn room_of_a_note() -> Result<Handle, StepError> {
-    Handle::opened(|out| ffi::nw_answer_new(out)).map_err(StepError::of)
 }
 
 /// The message of the certificate that was found.
@@ -518,7 +506,7 @@ fn certificate_of(answer: &mut Handle) -> Option<Vec<u8>> {
 
 /// The block that was found. If this is the answer's last use, the block takes the answer.
 fn block_of(answer: &mut Room, is_last: bool) -> Option<Block> {
-    let is_found = tagged(answer).kind == reply::FOUND;
+    let is_found = Reply::read(answer) == Reply::Found;
     is_found.then(|| match is_last {
         true => Block::at(Source::Answer(answer.take())),
         false => Block::found(answer),
@@ -527,33 +515,28 @@ fn block_of(answer: &mut Room, is_last: bool) -> Option<Block> {
 
 /// The listed missing parents.
 fn subjects_of(answer: &mut Handle) -> Vec<Subject> {
-    let listed = tagged(answer).number as usize;
+    let listed = match Reply::read(answer) {
+        Reply::Missing { listed } => listed as usize,
+        other => unexpected_kind(other),
+    };
     let subject = |index| {
-        let mut subject = Subject::EMPTY;
-        ffi::nw_answer_missing(answer, index, &mut subject).or_abort();
-        subject
+        read(Subject::EMPTY, |out| {
+            ffi::nw_answer_missing(answer, index, out)
+        })
     };
     (0..listed).map(subject).collect()
 }
 
 /// The listed missing parents of a block, if it is stored.
 fn missing_of(answer: &mut Handle) -> Option<Vec<Subject>> {
-    (tagged(answer).kind == reply::MISSING).then(|| subjects_of(answer))
+    (Reply::read(answer) != Reply::Unknown).then(|| subjects_of(answer))
 }
 
 fn status_of(answer: &mut Handle) -> Status {
-    let mut status = Status::EMPTY;
-    ffi::nw_answer_status(answer, &mut status).or_abort();
-    status
+    read(Status::EMPTY, |out| ffi::nw_answer_status(answer, out))
 }
 
-impl fmt::Debug for Session {
-    fn fmt(&self, f: &mut fmt::Formatter<'_>) -> fmt::Result {
-        f.debug_struct("Session")
-            .field("id", &self.id)
-            .finish_non_exhaustive()
-    }
-}
+debug_by!(Session: id);
 
 #[cfg(test)]
 mod tests {

@@ -1,8 +1,7 @@
 //! Settlements: one history of all sessions.
 
 use crate::caller::again;
-use crate::code::Code;
-use crate::error::error_texts;
+use crate::error::coded_error;
 use crate::ffi::{self, Handle};
 use crate::{Event, History, NoMemory, Note, Session, Store};
 use std::error::Error;
@@ -138,8 +137,7 @@ fn settle(sessions: &mut [Session]) -> Result<Note, SettleError> {
         return Err(SettleError::OtherStore);
     }
     for session in &mut *sessions {
-        let renewed = store.turns.take().renew(&mut session.caller);
-        renewed.or_no_memory()?;
+        store.turns.take().renew(&mut session.caller).done()?;
     }
     Given::new(sessions)?.settle()
 }
@@ -154,36 +152,31 @@ pub(crate) struct Given<'a> {
 
 impl Given<'_> {
     pub(crate) fn new(sessions: &mut [Session]) -> Result<Given<'_>, NoMemory> {
-        let settlement = Handle::opened(|out| ffi::nw_settlement_new(out));
         let mut given = Given {
-            settlement: settlement.map_err(Code::no_memory)?,
+            settlement: Handle::opened(|out| ffi::nw_settlement_new(out))?,
             sessions,
             count: 0,
         };
         for session in &mut *given.sessions {
-            let code = session.caller.give_to(&mut given.settlement);
-            code.or_no_memory()?;
+            let give = |own: &mut _| ffi::nw_settlement_give(&mut given.settlement, own);
+            session.caller.call(give).done()?;
             given.count += 1;
         }
         Ok(given)
     }
 
     pub(crate) fn settle(&mut self) -> Result<Note, SettleError> {
-        let history = Handle::opened(|out| ffi::nw_answer_new(out));
-        let mut history = history.map_err(Code::no_memory)?;
-        match again(|| ffi::nw_settle(&mut self.settlement, &mut history)) {
-            Code::DONE => Ok(Note::new(history)),
-            Code::UNSETTLED => Err(SettleError::Missing),
-            Code::ENDED => Err(SettleError::Ended),
-            other => Err(other.no_memory().into()),
-        }
+        let mut history = Handle::answer()?;
+        again(|| ffi::nw_settle(&mut self.settlement, &mut history)).done()?;
+        Ok(Note::new(history))
     }
 }
 
 impl Drop for Given<'_> {
     fn drop(&mut self) {
         for session in self.sessions[..self.count].iter_mut().rev() {
-            session.caller.take_from(&mut self.settlement).or_abort();
+            let take = |own: &mut _| ffi::nw_settlement_take(&mut self.settlement, own);
+            session.caller.call(take).or_abort();
         }
     }
 }
@@ -231,9 +224,8 @@ pub enum SettleError {
     NoMemory,
 }
 
-error_texts!(SettleError {
-    SettleError::Missing => "a session of the store is missing",
-    SettleError::OtherStore => "the sessions are of two stores",
-    SettleError::Ended => "another session ended the run",
-    SettleError::NoMemory => "out of memory",
+coded_error!(SettleError {
+    Missing = UNSETTLED => "a session of the store is missing",
+    OtherStore => "the sessions are of two stores",
+    Ended = ENDED => "another session ended the run",
 });

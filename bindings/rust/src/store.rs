@@ -4,11 +4,12 @@ use crate::builder::RestartWhen;
 use crate::caller::{Caller, again};
 use crate::code::Code;
 use crate::ffi::{self, Handle, Spare};
+use crate::lock::Lock;
 use crate::room::{Content, Room};
 use crate::turns::{Turn, Turns};
 use crate::{Committee, Limits, NoMemory, OpenError, Session, StepError, StoreBuilder};
 use std::fmt;
-use std::sync::{Arc, Mutex, MutexGuard, PoisonError};
+use std::sync::Arc;
 use std::time::Duration;
 
 /// The block store of one validator, in memory.
@@ -62,13 +63,13 @@ pub struct Store {
 /// The state that all owners of a store share.
 pub(crate) struct Inner {
     /// The store of the library. Its sessions are called without it.
-    store: Mutex<Handle>,
+    pub(crate) store: Lock<Handle>,
     pub(crate) turns: Turns,
     /// The room of a dropped answer, for the next call.
     pub(crate) spare: Arc<Spare>,
-    committee: Committee,
-    limits: Limits,
-    restart: Option<RestartWhen>,
+    pub(crate) committee: Committee,
+    pub(crate) limits: Limits,
+    pub(crate) restart: Option<RestartWhen>,
 }
 
 /// What a restart leaves of the old history. It is dropped after the turn.
@@ -123,11 +124,11 @@ impl Store {
     /// - [`OpenError::TooManySessions`] if the store has made as many sessions as its limit.
     /// - [`OpenError::NoMemory`] if the library could not allocate memory.
     pub fn session(&self) -> Result<Session, OpenError> {
-        let mut store = self.inner.store();
+        let mut store = self.inner.store.lock();
         let mut turn = self.inner.turns.take();
         let open = |out: &mut Handle| again(|| ffi::nw_store_session(&mut store, out));
-        let caller = Caller::new(Handle::opened(open).map_err(OpenError::of)?);
-        turn.enter(&caller);
+        let mut caller = Caller::new(Handle::opened(open)?);
+        turn.enter(&mut caller);
         drop(turn);
         Ok(Session::new(Arc::clone(&self.inner), caller))
     }
@@ -144,9 +145,9 @@ impl Store {
     ///
     /// [`NoMemory`] if the library could not allocate memory.
     pub fn compact(&self) -> Result<(), NoMemory> {
-        let mut store = self.inner.store();
+        let mut store = self.inner.store.lock();
         let _turn = self.inner.turns.take();
-        again(|| ffi::nw_store_compact(&mut store)).or_no_memory()
+        Ok(again(|| ffi::nw_store_compact(&mut store)).done()?)
     }
 
     /// Returns how many events the history has.
@@ -244,39 +245,6 @@ impl Store {
 }
 
 impl Inner {
-    /// The state of a new store over the library's store.
-    pub(crate) fn new(
-        store: Handle,
-        committee: Committee,
-        limits: Limits,
-        restart: Option<RestartWhen>,
-        turns: Turns,
-    ) -> Inner {
-        Inner {
-            store: Mutex::new(store),
-            turns,
-            spare: Arc::new(Spare::new()),
-            committee,
-            limits,
-            restart,
-        }
-    }
-
-    pub(crate) fn committee(&self) -> &Committee {
-        &self.committee
-    }
-
-    fn store(&self) -> MutexGuard<'_, Handle> {
-        // No call leaves a handle half changed, so a panic of another thread does no harm.
-        self.store.lock().unwrap_or_else(PoisonError::into_inner)
-    }
-
-    /// Returns room for an answer.
-    #[inline]
-    pub(crate) fn room(&self) -> Result<Room, Code> {
-        Room::new(&self.spare)
-    }
-
     /// Makes the session's next call. The room for its answer was made before.
     ///
     /// This is the only place that decides whether the history restarts. If there is no memory for
@@ -291,8 +259,8 @@ impl Inner {
     ) -> Result<(), StepError> {
         let mut turn = self.turns.take();
         let mut old = Ok(None);
-        if self.is_due(&mut turn, content) {
-            old = self.restart_due(&mut turn, caller, content, room);
+        while old.is_ok() && self.is_due(&mut turn, content) {
+            old = self.restart(&mut turn, caller, room);
         }
         let mut code = turn.call(caller, |session| call(session, room));
         // Without turns, the history can be full before all its events are counted.
@@ -301,7 +269,7 @@ impl Inner {
             code = turn.call(caller, |session| call(session, room));
         }
         let wakes = code == Code::DONE && {
-            let (bytes, is_change) = (content.bytes(room), content.is_change(room));
+            let (bytes, is_change) = content.outcome(room);
             turn.count(caller, bytes, is_change)
         };
         drop(turn);
@@ -310,7 +278,7 @@ impl Inner {
         }
         match (old, code) {
             (Err(_), Code::HISTORY_FULL) => Err(StepError::NoMemory),
-            (_, code) => code.done().map_err(StepError::of),
+            (_, code) => Ok(code.done()?),
         }
     }
 
@@ -321,22 +289,6 @@ impl Inner {
             turn.counts(|counts| when.is_met(counts.events, counts.bytes, content))
         };
         self.restart.is_some_and(is_met)
-    }
-
-    /// Restarts the history until the call with this content fits.
-    #[cold]
-    fn restart_due(
-        &self,
-        turn: &mut Turn,
-        caller: &mut Caller,
-        content: Content,
-        room: &mut Room,
-    ) -> Result<Option<Old>, Code> {
-        let mut old = None;
-        while self.is_due(turn, content) {
-            old = self.restart(turn, caller, room)?;
-        }
-        Ok(old)
     }
 
     /// Ends the session's run, and returns what is left of its history. The caller drops it after
@@ -350,16 +302,14 @@ impl Inner {
         room: &mut Room,
     ) -> Result<Option<Old>, Code> {
         let mut last = room.renew()?;
-        match turn.restart(caller, &mut last) {
-            Code::ENDED => {
-                turn.renew(caller).done()?;
-                Ok(None)
-            }
-            code => {
-                code.done()?;
-                Ok(Some([last, self.spare.take()]))
-            }
+        let code = caller.call(|session| ffi::nw_session_restart(session, &mut last));
+        turn.enter(caller);
+        if code == Code::ENDED {
+            turn.renew(caller).done()?;
+            return Ok(None);
         }
+        code.done()?;
+        Ok(Some([last, self.spare.take()]))
     }
 }
 
@@ -375,7 +325,8 @@ impl fmt::Debug for Store {
 #[cfg(test)]
 mod tests {
     use crate::ffi;
-    use crate::room::Content;
+    use crate::lock::tests::panic_under;
+    use crate::room::{Content, Room};
     use crate::{Committee, Digest, Limits, PublicKey, Session, StepError, Store};
     use std::sync::Mutex;
     use std::thread;
@@ -444,13 +395,7 @@ mod tests {
     fn a_panic_under_the_lock_stops_nobody() {
         let store = Store::new(&committee(), Limits::default()).unwrap();
         let mut session = store.session().unwrap();
-        thread::scope(|scope| {
-            let panics = scope.spawn(|| {
-                let _guards = (store.inner.store(), store.inner.turns.take());
-                panic!("under the lock");
-            });
-            panics.join().unwrap_err();
-        });
+        panic_under(|| (store.inner.store.lock(), store.inner.turns.take()));
         drop(session.status().unwrap());
         assert_eq!(store.events(), 1);
         store.compact().unwrap();
@@ -511,7 +456,7 @@ mod tests {
         let store = builder.open().unwrap();
         let mut session = store.session().unwrap();
         let answer = session.status().unwrap();
-        let mut room = store.inner.room().unwrap();
+        let mut room = Room::new(&store.inner.spare).unwrap();
         drop(answer);
         let status = |own: &mut _, answer: &mut _| ffi::nw_session_status(own, answer);
         let stepped = store

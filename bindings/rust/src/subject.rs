@@ -1,6 +1,5 @@
 //! Subjects, and the texts that authors and voters sign.
 
-use crate::code::Code;
 use crate::ffi;
 use crate::{BadRound, Digest, Signature};
 use std::cmp::Ordering;
@@ -77,11 +76,8 @@ pub fn text_of_block(digest: &Digest) -> [u8; 36] {
 /// [`BadRound`] if the round is 2^48 or more.
 pub fn text_of_vote(subject: &Subject) -> Result<[u8; 44], BadRound> {
     let mut text = [0; 44];
-    match ffi::nw_text_of_vote(subject, &mut text) {
-        Code::DONE => Ok(text),
-        Code::BAD_ROUND => Err(BadRound),
-        other => other.unexpected(),
-    }
+    ffi::nw_text_of_vote(subject, &mut text).done()?;
+    Ok(text)
 }
 
 /// Returns the message of a vote: the subject, the number of the member that signed it, and the
@@ -98,9 +94,5 @@ pub fn vote_message(
     signer: u16,
     signature: &Signature,
 ) -> Result<Vec<u8>, BadRound> {
-    let message = ffi::vote_message(subject, signer, signature);
-    message.map_err(|code| match code {
-        Code::BAD_ROUND => BadRound,
-        other => other.abort(),
-    })
+    Ok(ffi::vote_message(subject, signer, signature)?)
 }

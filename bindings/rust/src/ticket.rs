@@ -1,13 +1,13 @@
 //! Tickets of causal reads.
 
 use crate::code::Code;
-use crate::error::error_texts;
+use crate::debug::debug_by;
+use crate::error::coded_error;
 use crate::ffi::{self, Handle};
 use crate::history::both;
 use crate::room::Room;
 use crate::{Block, Digest, History, NoMemory, Walk};
 use std::cell::Cell;
-use std::fmt;
 use std::marker::PhantomData;
 use std::ptr;
 
@@ -97,10 +97,9 @@ impl Ticket {
     /// ```
     pub fn walk(&self) -> Result<Walk, NoMemory> {
         let ticket = &mut self.history.room();
-        let mut list =
-            Handle::opened(|out| ffi::nw_ticket_walk(ticket, out)).map_err(Code::no_memory)?;
+        let mut list = Handle::opened(|out| ffi::nw_ticket_walk(ticket, out))?;
         let mut len = 0;
-        ffi::nw_list_len(&mut list, &mut len).or_no_memory()?;
+        ffi::nw_list_len(&mut list, &mut len).done()?;
         Ok(Walk::new(list, len))
     }
 
@@ -179,22 +178,11 @@ impl Ticket {
 
 /// The outcome of a comparison that the library answered in this way.
 fn agreement(code: Code, same: bool) -> Result<bool, AgreeError> {
-    match code {
-        Code::DONE => Ok(same),
-        Code::NOT_COMPARABLE => Err(AgreeError::NotComparable),
-        other => Err(other.no_memory().into()),
-    }
+    code.done()?;
+    Ok(same)
 }
 
-impl fmt::Debug for Ticket {
-    fn fmt(&self, f: &mut fmt::Formatter<'_>) -> fmt::Result {
-        let (digest, floor) = self.about();
-        f.debug_struct("Ticket")
-            .field("digest", &digest)
-            .field("floor", &floor)
-            .finish_non_exhaustive()
-    }
-}
+debug_by!(Ticket: digest, floor);
 
 /// Why two tickets cannot be compared.
 #[derive(Clone, Copy, Debug, PartialEq, Eq)]
@@ -206,9 +194,8 @@ pub enum AgreeError {
     NoMemory,
 }
 
-error_texts!(AgreeError {
-    AgreeError::NotComparable => "the tickets are for two digests or have two garbage rounds",
-    AgreeError::NoMemory => "out of memory",
+coded_error!(AgreeError {
+    NotComparable = NOT_COMPARABLE => "the tickets are for two digests or have two garbage rounds",
 });
 
 #[cfg(test)]

@@ -6,9 +6,10 @@
 
 use crate::caller::Caller;
 use crate::code::Code;
-use crate::ffi::Handle;
+use crate::ffi::{self, Handle};
+use crate::lock::Lock;
 use std::hint;
-use std::sync::{Condvar, Mutex, MutexGuard, PoisonError, TryLockError};
+use std::sync::{Condvar, MutexGuard, PoisonError};
 use std::thread;
 use std::time::Duration;
 
@@ -23,7 +24,7 @@ const PAUSES: u32 = 20;
 
 /// The counts of a store, and the lock at which threads wait for their turns.
 pub(crate) struct Turns {
-    counts: Mutex<Counts>,
+    counts: Lock<Counts>,
     /// Wakes the threads that wait for a change.
     changed: Condvar,
     /// Whether a thread waits for its turn before it calls.
@@ -54,7 +55,7 @@ pub(crate) struct Turn<'a> {
 impl Turns {
     pub(crate) fn new(are_taken: bool) -> Turns {
         Turns {
-            counts: Mutex::default(),
+            counts: Lock::default(),
             changed: Condvar::new(),
             are_taken,
         }
@@ -68,19 +69,17 @@ impl Turns {
             }
             thread::sleep(PAUSE);
         }
-        // No call leaves the counts half changed, so a panic of another thread does no harm.
-        self.counts.lock().unwrap_or_else(PoisonError::into_inner)
+        self.counts.lock()
     }
 
     /// The counts, if this thread finds them free in one of its tries.
     fn free_counts(&self) -> Option<MutexGuard<'_, Counts>> {
-        (0..TRIES).find_map(|power| match self.counts.try_lock() {
-            Ok(counts) => Some(counts),
-            Err(TryLockError::Poisoned(counts)) => Some(counts.into_inner()),
-            Err(TryLockError::WouldBlock) => {
+        (0..TRIES).find_map(|power| {
+            let counts = self.counts.try_lock();
+            if counts.is_none() {
                 (0..1 << power).for_each(|_| hint::spin_loop());
-                None
             }
+            counts
         })
     }
 
@@ -176,20 +175,14 @@ impl Turn<'_> {
     /// Takes the session into the present run.
     #[cold]
     pub(crate) fn renew(&mut self, caller: &mut Caller) -> Code {
-        let code = caller.renew();
+        let code = caller.call(|session| ffi::nw_session_renew(session));
         self.enter(caller);
         code
     }
 
-    /// Ends the session's run, and begins the next one.
-    pub(crate) fn restart(&mut self, caller: &mut Caller, answer: &mut Handle) -> Code {
-        let code = caller.restart(answer);
-        self.enter(caller);
-        code
-    }
-
-    /// Counts the session's run, if it is new.
-    pub(crate) fn enter(&mut self, caller: &Caller) {
+    /// Notes the session's run, and begins its counts if it is new.
+    pub(crate) fn enter(&mut self, caller: &mut Caller) {
+        caller.note_run();
         self.counts(|counts| counts.enter(caller.run()));
     }
 

@@ -3,10 +3,11 @@
 use crate::Block;
 use crate::block::Source;
 use crate::ffi::Handle;
+use crate::lock::Lock;
 use std::fmt;
 use std::iter::FusedIterator;
 use std::ops::Range;
-use std::sync::{Arc, Mutex};
+use std::sync::Arc;
 
 /// The blocks of a walk, ascending by round and author.
 ///
@@ -15,14 +16,14 @@ use std::sync::{Arc, Mutex};
 /// parts is first used.
 #[derive(Clone)]
 pub struct Walk {
-    list: Arc<Mutex<Handle>>,
+    list: Arc<Lock<Handle>>,
     left: Range<usize>,
 }
 
 impl Walk {
     pub(crate) fn new(list: Handle, len: usize) -> Walk {
         Walk {
-            list: Arc::new(Mutex::new(list)),
+            list: Arc::new(Lock::new(list)),
             left: 0..len,
         }
     }

@@ -3,10 +3,7 @@ use crate::end::End;
 use crate::intake::{Inbox, Text};
 use crate::scheme::sign;
 use crossbeam_channel::unbounded;
-use nw_codec::{
-    Block, Certificate, Message, Ref, Seal, Transactions, block_digest, encode_block,
-    encode_message,
-};
+use nw_codec::{Block, Certificate, Ref, Seal, Subject, Transactions, block_digest};
 use nw_committee::{Committee, Key};
 use nw_digest::{Digest, Round, Sequence, Shared};
 use nw_sig::{text_of_block, text_of_vote};
@@ -130,15 +127,20 @@ fn signed_block(
     }
     let digest = block_digest(&block);
     let signature = sign(key(author), &text_of_block(&digest));
-    Ok((digest, encode_block(alloc, &block, &signature)?))
+    Ok((digest, block.message(alloc, &signature)?))
 }
 
 /// The message of the certificate for the slot's block, with the votes of all members.
 fn certificate(alloc: Global, (round, author): (u64, u16), digest: Digest) -> Result<Text, End> {
     let round = Round::new(round).unwrap_or(Round::ZERO);
+    let text = text_of_vote(&Subject {
+        digest,
+        round,
+        author,
+    });
     let mut votes = Vec::new(alloc);
     for signer in 0..MEMBERS {
-        let signature = sign(key(signer), &text_of_vote(&digest, round, author));
+        let signature = sign(key(signer), &text);
         votes.push(Seal { signer, signature })?;
     }
     let votes = Sequence::new(votes);
@@ -148,7 +150,10 @@ fn certificate(alloc: Global, (round, author): (u64, u16), digest: Digest) -> Re
         author,
         votes,
     };
-    Ok(encode_message(alloc, &Message::Certificate(certificate))?)
+    if !certificate.fits() {
+        return Err(End::Unexpected);
+    }
+    Ok(certificate.message(alloc)?)
 }
 
 /// An inbox with the messages in the validator's own order: a few are late, and a few come twice. It has no further sender.

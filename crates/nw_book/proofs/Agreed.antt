@@ -1,6 +1,6 @@
 -- What the views of two tickets show about their causal reads.
-use Rattle.std.proofs.Common.{◌≡◌, List, [], ◌∷◌, Result, Ok, Err, map, refl, sym, subst, ◌∙◌}
-use Rattle.std.specs.Prelude.{Contains, IfOk}
+use Rattle.std.proofs.Common.{◌≡◌, List, Result, Ok, Err, sym, subst, ◌∙◌}
+use Rattle.std.specs.Prelude.{IfOk}
 use Rattle.std.specs.FinMap.{get}
 use Rattle.nw_digest.specs.declared.digest.Digest.{Digest}
 use Rattle.nw_codec.specs.declared.block.Block.{Block}
@@ -9,10 +9,10 @@ use Rattle.nw_model.specs.State.{State}
 use Rattle.nw_model.specs.Checks.{digest_of}
 use Rattle.nw_model.specs.Sound.{HasNoBlocksBelowFloor}
 use Rattle.nw_model.specs.Paths.{IsComplete, IsCausalList}
-use Rattle.nw_model.specs.View.{Frozen, Shows, HasBlock, IsPathIn, IsAncestorIn, IsWalk}
+use Rattle.nw_model.specs.View.{Frozen, Shows, HasBlock, IsAncestorIn, IsWalk}
 use Rattle.nw_model.proofs.Admitted.{admitted_left}
-use Rattle.nw_model.proofs.Listed.{contains_first, contains_later}
-use Rattle.nw_model.proofs.Views.{there_held, ancestors_shown}
+use Rattle.nw_digest.proofs.Elements.{same_map}
+use Rattle.nw_model.proofs.Views.{there_held, ancestors_shown, last_there}
 use Rattle.nw_causal.specs.Agreement.{IsAgreement}
 use Rattle.nw_causal.specs.declared.agreement.Agreement.{Agreement}
 use Rattle.nw_causal.specs.declared.agreement.Agreement.TheVariants as agreements
@@ -21,19 +21,6 @@ use Rattle.nw_book.specs.Ticket.{TicketView, IsTicketWith, IsListOf, IsHeldAfter
 use Rattle.nw_book.proofs.Opened.{story_sound, ticket_there, ticket_walk}
 
 -- ---- a causal list is a walk
-
--- the digest at which a path ends is in the view
-last_there : (v : Frozen) (d : Digest) (path : List Digest) (a : Digest) → IsPathIn v d path a → (b : Block) × HasBlock v a b
-last_there v d [] a on = (on.0.0, subst (λ q. HasBlock v q on.0.0) on.1 on.0.1)
-last_there v d (e ∷ path) a on = last_there v e path a on.1
-
--- two functions that agree on the items of a list map it to the same list
-same_map : {X Y : Type 0} (f g : X → Y) (xs : List X) → ((x : X) → Contains xs x → f x ≡ g x) → map f xs ≡ map g xs
-same_map f g [] agree = refl
-same_map f g (x ∷ xs) agree =
-    let first : f x ≡ g x = agree x (contains_first x xs) in
-    let rest : map f xs ≡ map g xs = same_map f g xs (λ z among. agree z (contains_later x xs z among)) in
-    cc
 
 -- the causal list of a complete block is its walk in a view that shows the state
 causal_is_walk : (v : Frozen) (s : State) (d : Digest) (blocks : List Block) → HasNoBlocksBelowFloor s → Shows v s → IsComplete s d → IsCausalList s d blocks → IsWalk v d blocks
@@ -60,7 +47,7 @@ list_is_walk accepts t v blocks h is = causal_is_walk v (state_of t.front) t.dig
 held_after : (accepts : Meaning) (t : TicketView) (v : Frozen) (d : Digest) (b : Block) → IsTicketWith accepts t v → HasBlock v d b → IsHeldAfter t.front d b × (digest_of b ≡ d)
 held_after accepts t v d b h there =
     let held = (h.shows.complete d b).0 there in
-    let own = admitted_left accepts (terms_of t.front) t.front.base t.front.events h.ticket.legal d b held.0 in
+    let own = (admitted_left accepts (terms_of t.front) t.front.base t.front.events h.ticket.legal).blocks d b held.0 in
     (record { held = held.0; kept = held.1; complete = held.2 }, sym own.0)
 
 -- ---- two tickets for one digest

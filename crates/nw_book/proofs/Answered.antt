@@ -6,20 +6,20 @@ use Rattle.nw_model.specs.declared.call.Call.{Call}
 use Rattle.nw_model.specs.declared.reply.Reply.{Reply}
 use Rattle.nw_history.specs.Story.{Story, IsLegalStory}
 use Rattle.nw_history.specs.Prefix.{IsPrefixOf}
-use Rattle.nw_book.specs.Answer.{Takes, DoneView}
+use Rattle.nw_book.specs.Answer.{Takes, AnswerView}
 use Rattle.nw_book.specs.Turn.{event}
 use Rattle.nw_book.specs.Journal.{ArePrefixesOf, KnowsAll, with_answer}
 use Rattle.nw_book.specs.Answered.{IsAnswered}
 
 -- the session's journal after the answer was pushed
-keeps_it : (id number : ℕ) (answers after : List DoneView) (known later : List Story) (a : DoneView) (asked : Call) (reply : Reply) (front : Story)
+keeps_it : (id number : ℕ) (answers after : List AnswerView) (known later : List Story) (a : AnswerView) (asked : Call) (reply : Reply) (front : Story)
     → number ≡ length answers + 1 → after ≡ answers ++ a ∷ [] → a.front ≡ front → a.event ≡ event id number asked reply
     → record { id = id; answers = after; known = later } ≡ with_answer (record { id = id; answers = answers; known = known }) (event id (length answers + 1) asked reply) front later
 keeps_it id number answers after known later a asked reply front next items same is =
     let pushed : a ≡ record { event = event id (length answers + 1) asked reply; front = front } = λ i. record { event = (is ∙ ap (λ n. event id n asked reply) next) i; front = same i } in
-    ap (λ (l : List DoneView). record { id = id; answers = l; known = later }) (items ∙ ap (λ (x : DoneView). answers ++ x ∷ []) pushed)
+    ap (λ (l : List AnswerView). record { id = id; answers = l; known = later }) (items ∙ ap (λ (x : AnswerView). answers ++ x ∷ []) pushed)
 
-pub answered : (accepts : Meaning) (h next : Story) (id number : ℕ) (asked : Call) (reply : Reply) (front : Story) (answers after : List DoneView) (known later : List Story) (a : DoneView)
+pub answered : (accepts : Meaning) (h next : Story) (id number : ℕ) (asked : Call) (reply : Reply) (front : Story) (answers after : List AnswerView) (known later : List Story) (a : AnswerView)
     → Takes accepts h next id number asked reply front → number ≡ length answers + 1 → ArePrefixesOf next answers → after ≡ answers ++ a ∷ [] → a.front ≡ front → a.event ≡ event id number asked reply
     → ((s : Story) → Contains known s → IsPrefixOf s next) → Contains later front → KnowsAll later known
     → IsAnswered accepts h (record { id = id; answers = answers; known = known }) (record { id = id; answers = after; known = later }) asked reply front

@@ -1,5 +1,5 @@
 pub mod Longer
-pub mod Represent
+pub mod IsBook
 pub mod Opened
 pub mod Agreed
 pub mod Send
@@ -7,3 +7,4 @@ pub mod Runs
 pub mod NotReady
 pub mod Prefixes
 pub mod Answered
+pub mod Given

@@ -1,6 +1,6 @@
 -- Tickets: their digests are complete, and walks in their views give the lists of their causal reads.
 use Rattle.std.proofs.Common.{◌≡◌, ℕ, List, [], ◌∷◌, ◌++◌, Result, Ok, Err, ap, sym, subst, ◌∙◌}
-use Rattle.std.specs.Prelude.{IfOk}
+use Rattle.std.specs.Prelude.{All, IfOk}
 use Rattle.std.proofs.lemmas.List.Elements.{All-weaker}
 use Rattle.nw_digest.specs.declared.digest.Digest.{Digest}
 use Rattle.nw_codec.specs.declared.block.Block.{Block}
@@ -14,14 +14,14 @@ use Rattle.nw_model.specs.History.{AreReplies, replay}
 use Rattle.nw_model.specs.declared.call.Call.TheVariants as calls
 use Rattle.nw_model.specs.declared.event.Event.{Event}
 use Rattle.nw_model.specs.declared.reply.Reply.TheVariants as replies
-use Rattle.nw_model.specs.Checks.{digest_of}
+use Rattle.nw_model.specs.Checks.{digest_of, IsWellFormed}
 use Rattle.nw_model.proofs.Admitted.{admitted_left}
 use Rattle.nw_model.proofs.Replayed.{legal_sound}
 use Rattle.nw_model.proofs.Views.{complete_there, there_held, walk_is_causal}
 use Rattle.nw_history.specs.Story.{Story, IsLegalStory, terms_of, bounds_of, state_of, with_event}
 use Rattle.nw_causal.specs.declared.ancestor.Ancestor.{Ancestor}
 use Rattle.nw_causal.specs.Looked.{AreUnderTheirDigests}
-use Rattle.nw_book.specs.Ticket.{HaveTheirDigests, TicketView, IsTicket, IsTicketWith}
+use Rattle.nw_book.specs.Ticket.{TicketView, IsTicket, IsTicketWith}
 use Rattle.nw_book.specs.Turn.{event}
 use Rattle.nw_book.proofs.Longer.{replay_last}
 
@@ -70,14 +70,15 @@ opened accepts old front session number d v is legal shows =
       shows = subst (Shows v) (sym same) shows;
     }
 
--- if a walk in a ticket's view succeeds, each digest is that of its block
-pub ticket_digests : {W E : Type 0} (walked : W → List Ancestor) (accepts : Meaning) (t : TicketView) (v : Frozen) (r : Result W E) → IsTicketWith accepts t v → IfOk r (λ walk. AreUnderTheirDigests v (walked walk))
-    → IfOk r (λ walk. HaveTheirDigests (walked walk))
-ticket_digests walked accepts t v (Ok walk) h under =
-    All-weaker (λ (a : Ancestor). HasBlock v a.digest.now a.block.now) (λ (a : Ancestor). a.digest.now ≡ digest_of a.block.now)
-    (λ a there. (admitted_left accepts (terms_of t.front) t.front.base t.front.events h.ticket.legal a.digest.now a.block.now
-    (there_held v (state_of t.front) a.digest.now a.block.now h.shows there)).0) (walked walk) under
-ticket_digests walked accepts t v (Err e) h under = tt
+-- if a walk in a ticket's view succeeds, each block is held under its digest and well formed; P follows from that
+pub ticket_each : {W E : Type 0} (walked : W → List Ancestor) (P : Ancestor → Type 0) (accepts : Meaning) (t : TicketView) (v : Frozen) (r : Result W E)
+    → ((a : Ancestor) → (a.digest.now ≡ digest_of a.block.now) × IsWellFormed accepts t.front.committee a.block.now → P a)
+    → IsTicketWith accepts t v → IfOk r (λ walk. AreUnderTheirDigests v (walked walk)) → IfOk r (λ walk. All P (walked walk))
+ticket_each walked P accepts t v (Ok walk) follows h under =
+    All-weaker (λ (a : Ancestor). HasBlock v a.digest.now a.block.now) P
+    (λ a there. follows a ((admitted_left accepts (terms_of t.front) t.front.base t.front.events h.ticket.legal).blocks a.digest.now a.block.now
+    (there_held v (state_of t.front) a.digest.now a.block.now h.shows there))) (walked walk) under
+ticket_each walked P accepts t v (Err e) follows h under = tt
 
 -- if a walk in a ticket's view succeeds, its blocks are the list of the ticket's causal read
 pub ticket_walks : {W E : Type 0} (blocks : W → List Block) (accepts : Meaning) (t : TicketView) (v : Frozen) (r : Result W E) → IsTicketWith accepts t v → IfOk r (λ walk. IsWalk v t.digest (blocks walk))

@@ -1,12 +1,11 @@
 -- Prefixes of histories.
-use Rattle.std.proofs.Common.{◌≡◌, List, [], ◌∷◌, ◌++◌, refl, sym, ap, ◌∙◌, append_assoc, subst, ⊎_elim, inl, inr}
-use Rattle.std.specs.Prelude.{All}
+use Rattle.std.proofs.Common.{◌≡◌, ◌≤◌, List, [], ◌∷◌, ◌++◌, length, refl, sym, ap, ◌∙◌, append_assoc, subst, ⊎_elim, inl, inr, arith}
 use mathlib.Core.List.{IsPrefix}
 use mathlib.Core.Logic.{◌⊎◌}
 use Rattle.nw_model.specs.declared.event.Event.{Event}
 use Rattle.nw_history.specs.Story.{Story, with_event}
 use Rattle.nw_history.specs.Prefix.{IsPrefixOf}
-use Rattle.nw_book.specs.Answer.{DoneView}
+use Rattle.nw_book.specs.Answer.{AnswerView}
 use Rattle.nw_book.specs.Journal.{ArePrefixesOf, AreComparable}
 
 begins_itself : (xs : List Event) → IsPrefix xs xs
@@ -30,6 +29,13 @@ prefix_trans s t u p q = record {
 pub prefix_next : (s t : Story) (e : Event) → t ≡ with_event s e → IsPrefixOf s t
 prefix_next s t e is = subst (λ u. IsPrefixOf s u) (sym is) (record { committee = refl; limits = refl; base = refl; events = (e ∷ [], refl) })
 
+-- a prefix that is as long is the whole
+pub prefix_whole : (xs ys : List Event) → IsPrefix xs ys → length ys ≤ length xs → xs ≡ ys
+prefix_whole [] [] p le = refl
+prefix_whole [] (y ∷ ys) p le = absurd (omega arith)
+prefix_whole (x ∷ xs) [] p le = absurd (cc (p.1))
+prefix_whole (x ∷ xs) (y ∷ ys) p le = let rest = prefix_whole xs ys (p.0, cc (p.1)) (omega arith) in cc (p.1, rest)
+
 either_begins : (xs ys zs : List Event) → IsPrefix xs zs → IsPrefix ys zs → IsPrefix xs ys ⊎ IsPrefix ys xs
 either_begins [] ys zs p q = inl (ys, refl)
 either_begins (x ∷ xs) [] zs p q = inr (x ∷ xs, refl)
@@ -50,5 +56,5 @@ either_prefix s t u p q =
     (λ (e : IsPrefix t.events s.events). inr (record { committee = q.committee ∙ sym p.committee; limits = q.limits ∙ sym p.limits; base = q.base ∙ sym p.base; events = e }))
     (either_begins s.events t.events u.events p.events q.events)
 
-pub comparable : (h : Story) (answers others : List DoneView) → ArePrefixesOf h answers → ArePrefixesOf h others → AreComparable answers others
+pub comparable : (h : Story) (answers others : List AnswerView) → ArePrefixesOf h answers → ArePrefixesOf h others → AreComparable answers others
 comparable h answers others begun also = λ k a l m b n. either_prefix _ _ h (begun k a l) (also m b n)

@@ -13,7 +13,7 @@ use Rattle.nw_book.specs.Ticket.{TicketView}
 use Rattle.nw_book.specs.Turn.{event}
 
 -- an answer, as contracts see it
-pub record DoneView : Type 0 where
+pub record AnswerView : Type 0 where
   -- the event of the call
   pub event : Event
   -- the history up to and including the event
@@ -31,16 +31,16 @@ pub record Takes (accepts : Meaning) (old new : Story) (session number : ℕ) (c
   pub legal : IsLegalStory accepts new
 
 -- the reply to a causal read: Ready if it got a ticket
-abbrev pub reply_of : Result TicketView DoneView → Reply
+abbrev pub reply_of : Result TicketView AnswerView → Reply
 reply_of (Ok ticket) = replies.Ready
 reply_of (Err done) = done.event.reply
 
 -- the front of the answer to a causal read
-abbrev pub front_of : Result TicketView DoneView → Story
+abbrev pub front_of : Result TicketView AnswerView → Story
 front_of (Ok ticket) = ticket.front
 front_of (Err done) = done.front
 
 -- the ticket is for the digest; if there is no ticket, the reply says why there is no list
-abbrev pub IsTicketFor : Digest → Result TicketView DoneView → Type 0
+abbrev pub IsTicketFor : Digest → Result TicketView AnswerView → Type 0
 IsTicketFor d (Ok ticket) = ticket.digest ≡ d
 IsTicketFor d (Err done) = (why : CausalReply) × (done.event.reply ≡ replies.Causal why)

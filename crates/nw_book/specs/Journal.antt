@@ -1,4 +1,4 @@
--- Stores and sessions, as contracts see them: the value under a store's lock, and the journal of each session.
+-- The origin of a store's histories, and the journals of its sessions.
 use Rattle.std.specs.Prelude.{◌≡◌, ℕ, ◌+◌, List, [], ◌∷◌, ◌++◌, length, All}
 use Rattle.std.specs.List.{Contains}
 use mathlib.Core.Logic.{◌⊎◌}
@@ -6,7 +6,7 @@ use Rattle.nw_sig.specs.Signed.{Meaning}
 use Rattle.nw_model.specs.declared.event.Event.{Event}
 use Rattle.nw_history.specs.Story.{Story, Origin, IsLegalStory}
 use Rattle.nw_history.specs.Prefix.{IsPrefixOf}
-use Rattle.nw_book.specs.Answer.{DoneView}
+use Rattle.nw_book.specs.Answer.{AnswerView}
 
 -- the origin of a history: its committee, its limits and its base
 abbrev pub origin_of : Story → Origin
@@ -19,51 +19,30 @@ pub record IsHistoryOf (accepts : Meaning) (origin : Origin) (s : Story) : Type 
   -- the history is legal
   pub legal : IsLegalStory accepts s
 
--- the value under a store's lock, as contracts see it
-pub record Guarded : Type 0 where
-  -- the history so far
-  pub history : Story
-  -- the number of sessions made so far
-  pub made : ℕ
-
 -- the journal of a session
 pub record Journal : Type 0 where
   -- the session's number
   pub id : ℕ
   -- the session's answers, in order
-  pub answers : List DoneView
+  pub answers : List AnswerView
   -- the histories that the session knows of
   pub known : List Story
 
 -- each front is a prefix of the history
-abbrev pub ArePrefixesOf : Story → List DoneView → Type 0
+abbrev pub ArePrefixesOf : Story → List AnswerView → Type 0
 ArePrefixesOf history answers = All (λ a. IsPrefixOf a.front history) answers
 
 -- of an answer from each list, one's front is a prefix of the other's
-abbrev pub AreComparable : List DoneView → List DoneView → Type 0
+abbrev pub AreComparable : List AnswerView → List AnswerView → Type 0
 AreComparable answers others = All (λ a. All (λ b. IsPrefixOf a.front b.front ⊎ IsPrefixOf b.front a.front) others) answers
 
 -- the known histories include all of the others
 abbrev pub KnowsAll : List Story → List Story → Type 0
 KnowsAll known others = (s : Story) → Contains others s → Contains known s
 
--- the answer is to this session's call with this number
-pub record AnswersCall (id number : ℕ) (a : DoneView) : Type 0 where
-  -- the event has the session's number
-  pub session : a.event.session ≡ id
-  -- the event has the call's number
-  pub number_is : a.event.number ≡ number
-  -- the front ends with the event
-  pub last : (earlier : List Event) × (a.front.events ≡ earlier ++ a.event ∷ [])
-
--- the answers are to this session's calls, numbered from n on
-abbrev pub AreAnswers : ℕ → ℕ → List DoneView → Type 0
-AreAnswers id n [] = Unit {0}
-AreAnswers id n (a ∷ others) = AnswersCall id n a × AreAnswers id (n + 1) others
-
 -- the number of the session's next call
-abbrev pub next_number : Journal → ℕ
-next_number j = length j.answers + 1
+abbrev pub next_in_journal : Journal → ℕ
+next_in_journal j = length j.answers + 1
 
 -- the journal with one more answer; its session now knows of these histories
 abbrev pub with_answer : Journal → Event → Story → List Story → Journal

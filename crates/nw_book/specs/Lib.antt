@@ -5,5 +5,4 @@ pub mod Answer
 pub mod Run
 pub mod Journal
 pub mod Answered
-pub mod Laws
 pub mod Settled

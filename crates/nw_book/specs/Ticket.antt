@@ -4,7 +4,8 @@ use Rattle.std.specs.FinMap.{get}
 use Rattle.nw_digest.specs.declared.digest.Digest.{Digest}
 use Rattle.nw_codec.specs.declared.block.Block.{Block}
 use Rattle.nw_sig.specs.Signed.{Meaning}
-use Rattle.nw_model.specs.Checks.{digest_of}
+use Rattle.nw_committee.specs.declared.member.Member.{Member}
+use Rattle.nw_model.specs.Checks.{digest_of, IsWellFormed}
 use Rattle.nw_model.specs.Laws.{AreCollision}
 use Rattle.nw_model.specs.Paths.{IsComplete}
 use Rattle.nw_model.specs.Step.{IsReply}
@@ -43,6 +44,10 @@ pub record IsTicketWith (accepts : Meaning) (t : TicketView) (v : Frozen) : Type
 -- each digest is that of its block
 abbrev pub HaveTheirDigests : List Ancestor → Type 0
 HaveTheirDigests = All (λ (a : Ancestor). a.digest.now ≡ digest_of a.block.now)
+
+-- each block is well formed under these members
+abbrev pub AreWellFormed : Meaning → List Member → List Ancestor → Type 0
+AreWellFormed accepts members = All (λ (a : Ancestor). IsWellFormed accepts members a.block.now)
 
 -- the list is the reply to the ticket's causal read
 abbrev pub IsListOf : TicketView → List Block → Type 0

@@ -61,7 +61,7 @@ pub record AreEventCounts (counts : List ℕ) (s : Story) : Type 0 where
   pub each : (session : ℕ) → session < length counts → slice_index counts session ≡ length (events_of session s.events)
 
 -- the invariant of a book: its tables and its counts represent its history
-pub record Represent (accepts : Meaning) (tables : BoundedState) (counts : List ℕ) (s : Story) : Type 0 where
+pub record IsBook (accepts : Meaning) (tables : BoundedState) (counts : List ℕ) (s : Story) : Type 0 where
   -- the limits are in their ranges
   pub in_range : AreInRange s.limits
   -- the history is legal

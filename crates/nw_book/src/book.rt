@@ -1,11 +1,12 @@
 //! Books: a history, and the tables with the state after it.
 ghost use Rattle.std.specs.Prelude.{◌≡◌, ◌↔◌, [], None, IfOk, IfErr, OnOk, OnErr};
 ghost use Rattle.std.specs.Result.{IsErrOf};
-ghost use Rattle.nw_model.specs.Look.{AreLooks, IsLook, TellsSatisfied};
+ghost use Rattle.nw_model.specs.Look.{AreLooks};
 ghost use Rattle.nw_model.specs.declared.call.Call.TheVariants as Call;
 ghost use Rattle.nw_history.specs.Limits.{AreInRange};
 ghost use Rattle.nw_history.specs.Story.{IsLegalStory, first_origin, state_of, story_of};
 ghost use Rattle.nw_book.specs.Answer.{IsTicketFor, Takes, front_of, reply_of};
+ghost use Rattle.nw_book.specs.Answered.{IsLookAfter};
 ghost use Rattle.nw_book.specs.Command.{call_of, committee_of};
 ghost use Rattle.nw_book.specs.Turn.{IsRefusal, MayStep};
 
@@ -17,7 +18,7 @@ use crate::{BookError, Command, Done, NoStep, Ticket};
 use nw_committee::Committee;
 use nw_dag::{Dag, DagLimits};
 use nw_digest::{Digest, NoMemory, Round, Shared};
-use nw_history::{Front, History, Limits};
+use nw_history::{Front, Limits};
 use nw_model::Look;
 use nw_sig::Scheme;
 use std::alloc::Global;
@@ -27,7 +28,7 @@ use std::marker::Model;
 /// committee, limits and base.
 #[derive(Drop)]
 pub struct Book<S: Scheme> {
-    history: History<S>,
+    history: Front<S>,
     /// The state after the history.
     tables: Dag,
     /// For each session that the limits allow, the number of its calls in the history.
@@ -36,7 +37,7 @@ pub struct Book<S: Scheme> {
 
 impl<S: Scheme> Model for Book<S> {
     ghost use Rattle.nw_history.specs.Story.{Story};
-    ghost use Rattle.nw_book.specs.Turn.{Represent};
+    ghost use Rattle.nw_book.specs.Turn.{IsBook};
 
     ghost Value = { Story };
 
@@ -47,7 +48,7 @@ impl<S: Scheme> Model for Book<S> {
 
     ghost view = { λ b. b.history };
 
-    ghost invariant = { λ b. Represent S.accepts b.tables b.calls.items b.history };
+    ghost invariant = { λ b. IsBook S.accepts b.tables b.calls.items b.history };
 }
 
 impl<S: Scheme> Book<S> {
@@ -81,7 +82,7 @@ impl<S: Scheme> Book<S> {
     }
 
     /// The history so far.
-    pub fn history(&self) -> &History<S>
+    pub fn history(&self) -> &Front<S>
         ensures history { result.now ≡ self.now }
         ensures legal { IsLegalStory S.accepts self.now }
         ensures in_range { AreInRange self.now.limits }
@@ -91,8 +92,7 @@ impl<S: Scheme> Book<S> {
 
     /// What the state after the history has in the slot of this round and author. This is no call: it adds no event, and allocates nothing.
     pub fn look(&self, round: Round, author: u16) -> Look
-        ensures look { IsLook (state_of self.now) (round, author) result }
-        ensures satisfied { TellsSatisfied (state_of self.now) (round, author) result }
+        ensures { IsLookAfter self.now (round, author) result }
     {
         self.tables.look(round, author)
     }

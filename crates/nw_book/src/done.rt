@@ -1,10 +1,11 @@
 //! Answers to calls.
 ghost use Rattle.std.specs.Prelude.{◌≡◌, ◌≢◌, ◌-◌, Some, IfSome, IsNone, length, slice_get};
 ghost use Rattle.nw_codec.specs.declared.block.Block.{Block};
-ghost use Rattle.nw_model.specs.Checks.{digest_of};
+ghost use Rattle.nw_codec.specs.declared.certificate.Certificate.{Certificate};
+ghost use Rattle.nw_model.specs.Checks.{digest_of, IsWellFormed, IsValid};
 
 use crate::Entry;
-use nw_codec::Block;
+use nw_codec::{Block, Certificate};
 use nw_digest::{Digest, Shared};
 use nw_history::Front;
 use nw_model::{Call, Reply};
@@ -23,9 +24,9 @@ impl<S: Scheme> Model for Done<S> {
     ghost use Rattle.std.specs.Coded.{codes};
     ghost use Rattle.nw_model.specs.State.{coded_state};
     ghost use Rattle.nw_model.specs.declared.reply.Reply.TheVariants as Reply;
-    ghost use Rattle.nw_book.specs.Answer.{DoneView};
+    ghost use Rattle.nw_book.specs.Answer.{AnswerView};
 
-    ghost Value = { DoneView };
+    ghost Value = { AnswerView };
 
     ghost coded = { Prim.hlevel (codes, coded_state) };
 
@@ -60,10 +61,13 @@ impl<S: Scheme> Done<S> {
         self.entry.reply()
     }
 
-    /// The block that a read found, with its digest. `None` if the call is no read, or the read found no block.
+    /// The block that a read found, with its digest. It is well formed under the store's committee. `None` if the call is no read, or the read
+    /// found no block.
     pub fn found(&self) -> Option<(Digest, &Shared<Block>)>
         ensures found { IfSome result (λ found. (self.now.event.reply ≡ Reply.Read (Some found.1.now))
             × (found.0 ≡ digest_of found.1.now)) }
+        ensures well_formed { IfSome result
+            (λ found. IsWellFormed S.accepts self.now.front.committee found.1.now) }
         ensures none { IsNone result → (b : Block) → self.now.event.reply ≢ Reply.Read (Some b) }
     {
         let block = self.read_block()?;
@@ -81,6 +85,21 @@ impl<S: Scheme> Done<S> {
     {
         match self.entry.reply() {
             Reply::Read(Some(block)) => Some(block),
+            _ => None,
+        }
+    }
+
+    /// The certificate that a call for a certificate found. It is valid under the store's committee. `None` if it is another call, or found no
+    /// certificate.
+    pub fn certificate(&self) -> Option<&Shared<Certificate>>
+        ensures found { IfSome result
+            (λ found. self.now.event.reply ≡ Reply.Certificate (Some found.now)) }
+        ensures valid { IfSome result
+            (λ found. IsValid S.accepts self.now.front.committee found.now) }
+        ensures none { IsNone result → (c : Certificate) → self.now.event.reply ≢ Reply.Certificate (Some c) }
+    {
+        match self.entry.reply() {
+            Reply::Certificate(Some(certificate)) => Some(certificate),
             _ => None,
         }
     }

@@ -21,9 +21,9 @@ impl<S: Scheme> Model for Entry<S> {
     ghost use Rattle.std.specs.Prelude.{◌≡◌, ◌-◌, Some, length, slice_get};
     ghost use Rattle.std.specs.Coded.{codes};
     ghost use Rattle.nw_model.specs.State.{coded_state};
-    ghost use Rattle.nw_book.specs.Answer.{DoneView};
+    ghost use Rattle.nw_book.specs.Answer.{AnswerView};
 
-    ghost Value = { DoneView };
+    ghost Value = { AnswerView };
 
     ghost coded = { Prim.hlevel (codes, coded_state) };
 
@@ -57,7 +57,10 @@ impl<S: Scheme> Entry<S> {
 
     /// The reply to the call. It is `Ready` if the call is a causal read that got a ticket.
     pub fn reply(&self) -> &Reply
-        ensures { result.now ≡ self.now.event.reply }
+        ensures reply { result.now ≡ self.now.event.reply }
+        ensures last { slice_get self.now.front.events (length self.now.front.events - 1)
+            ≡ Some self.now.event }
+        ensures legal { IsLegalStory S.accepts self.now.front }
     {
         &self.event().reply
     }

@@ -27,7 +27,7 @@ pub use nw_check::{CheckedBlock, CheckedCert};
 pub use nw_codec::Block;
 pub use nw_dag::{Call, Digest, Reply, Round, Sequence, View};
 pub use nw_history::{
-    Base, Committee, Event, Front, History, Limits, MAX_BLOCKS, MAX_EVENTS, MAX_SESSIONS,
-    MAX_WINDOW, NoMemory, Scheme, Shared,
+    Base, Committee, Event, Front, Limits, MAX_BLOCKS, MAX_EVENTS, MAX_SESSIONS, MAX_WINDOW,
+    NoMemory, Scheme, Shared,
 };
 pub use ticket::Ticket;

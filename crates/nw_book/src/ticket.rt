@@ -6,7 +6,7 @@ ghost use Rattle.nw_model.specs.declared.call.Call.TheVariants as Call;
 ghost use Rattle.nw_model.specs.declared.reply.Reply.TheVariants as Reply;
 ghost use Rattle.nw_causal.specs.Looked.{blocks};
 ghost use Rattle.nw_history.specs.Story.{bounds_of, state_of};
-ghost use Rattle.nw_book.specs.Ticket.{HaveTheirDigests, IsAgreed, IsTicket, IsTicketWith};
+ghost use Rattle.nw_book.specs.Ticket.{AreWellFormed, HaveTheirDigests, IsAgreed, IsTicket, IsTicketWith};
 
 use nw_causal::{Agreement, Ancestor, agree, walk, walk_lent};
 use nw_codec::Block;
@@ -91,13 +91,15 @@ impl<S: Scheme> Ticket<S> {
         walk(alloc, &self.view, self.digest)
     }
 
-    /// The same list, with the digest of each block. The ticket lends both, so it takes no owner of a block.
+    /// The same list, with the digest of each block. Each is well formed under the store's committee. The ticket lends both, so it takes no owner of a block.
     ///
     /// `NoMemory`: an allocation failed. A later walk may succeed.
     pub fn walk_lent(&self, alloc: Global) -> Result<Vec<Ancestor<'_>>, NoMemory>
         ensures list { IfOk result (λ walked. IsReply (bounds_of self.now.front.limits)
             (state_of self.now.front) (Call.Causal self.now.digest) (Reply.List (blocks walked.items))) }
         ensures digests { IfOk result (λ walked. HaveTheirDigests walked.items) }
+        ensures well_formed { IfOk result
+            (λ walked. AreWellFormed S.accepts self.now.front.committee walked.items) }
         ensures ticket { IsTicket S.accepts self.now }
     {
         walk_lent(alloc, &self.view, &self.digest)

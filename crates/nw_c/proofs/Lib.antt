@@ -1,5 +1,5 @@
 pub mod Looks
 pub mod AsBox
 pub mod Send
-pub mod Signed
 pub mod Cut
+pub mod Walked

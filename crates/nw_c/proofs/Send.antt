@@ -60,7 +60,7 @@ content_send = recorded_send (Enum (shape content.the_type)) (content.the_type).
   (
     (search (sendable, crosses, prepared.the_send, prepared.the_sync) depth 30, tt),
     (
-      (checked_send, (search (sendable, crosses) depth 30, tt)),
+      (checked_send, tt),
       (
         (gather.the_send, tt),
         (

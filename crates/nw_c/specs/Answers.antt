@@ -1,6 +1,5 @@
 -- The replies that answers have.
 use Rattle.std.specs.Prelude.{◌≡◌, ◌⊎◌, ℕ, List, Option, Some, None, slice_get}
-use Rattle.nw_codec.specs.Fits.{CertificateFits}
 use Rattle.nw_codec.specs.Spelled.{Spells}
 use Rattle.nw_codec.specs.declared.block.Block.{Block}
 use Rattle.nw_codec.specs.declared.certificate.Certificate.{Certificate}
@@ -32,7 +31,7 @@ EncodesCertificate other text = ⊥
 
 -- the option has a missing parent, and it has this subject
 abbrev pub IsSubjectOf : Option Wanted → CSubject → Type 0
-IsSubjectOf (Some w) s = s ≡ subject_of w.digest w.round w.author
+IsSubjectOf (Some w) s = s ≡ subject_of (record { digest = w.digest; round = w.round; author = w.author })
 IsSubjectOf None s = ⊥
 
 -- the reply lists missing parents, of all blocks or of one, and the one at the index has this subject
@@ -84,13 +83,3 @@ AnswersMissing answer = (wanted : List Wanted) × (HasReply answer (reply.Missin
 
 abbrev pub AnswersStatus : Content → Type 0
 AnswersStatus answer = (counts : Counts) × HasReply answer (reply.Status counts)
-
--- the reply has a certificate that breaks a limit or an order of the format
-abbrev pub HasOverLimit : Reply → Type 0
-HasOverLimit (reply.Certificate (Some c)) = CertificateFits c → ⊥
-HasOverLimit other = ⊥
-
--- it is an answer with such a reply
-abbrev pub AnswersOverLimit : Content → Type 0
-AnswersOverLimit (kind.Answer told) = HasOverLimit told.event.reply
-AnswersOverLimit other = ⊥

@@ -4,6 +4,7 @@ use Rattle.std.specs.List.{flat_map}
 use Rattle.nw_codec.specs.Fits.{Fits}
 use Rattle.nw_codec.specs.Grammar.{body}
 use Rattle.nw_codec.specs.Spelled.{Spells}
+use Rattle.nw_codec.specs.Subject.{block_subject}
 use Rattle.nw_codec.specs.declared.block.Block.{Block}
 use Rattle.nw_codec.specs.declared.block.Ref.{Ref}
 use Rattle.nw_codec.specs.Limits.{longest_transaction}
@@ -40,7 +41,7 @@ CannotBeCut bytes lengths = (transactions : List (List ℕ)) → AreCutFrom byte
 
 -- it is a block with this subject
 abbrev pub HasSubject : Content → CSubject → Type 0
-HasSubject (kind.Block b) s = s ≡ subject_of (digest_of b) b.round b.author
+HasSubject (kind.Block b) s = s ≡ subject_of (block_subject (digest_of b) b)
 HasSubject other s = ⊥
 
 -- it is a block with these numbers of parents and transactions
@@ -76,11 +77,6 @@ HasBody other text = ⊥
 abbrev pub HasMessage : Content → CSignature → List ℕ → Type 0
 HasMessage (kind.Block b) s text = Spells text (messages.Block b (record { 0 = s.bytes }))
 HasMessage other s text = ⊥
-
--- it is a block that breaks a limit or an order of the format
-abbrev pub IsBlockOverLimit : Content → Type 0
-IsBlockOverLimit (kind.Block b) = Fits b → ⊥
-IsBlockOverLimit other = ⊥
 
 -- it is a block with no parent at the index
 abbrev pub HasNoParentAt : Content → ℕ → Type 0

@@ -20,18 +20,18 @@ IsNewGather committee s other = ⊥
 
 -- the vote can be counted and is counted, and b says whether the counted votes reach the quorum
 abbrev pub IsCountedIn : Meaning → Content → Content → Content → Bool → Type 0
-IsCountedIn accepts (kind.Gather old) (kind.Checked (checked.Vote v) signature) (kind.Gather new) b =
+IsCountedIn accepts (kind.Gather old) (kind.Checked (checked.Vote v)) (kind.Gather new) b =
     CanCount accepts old v × CountsVote old v new × (IsTrue b ↔ ReachesQuorum new.committee (signers new.seals))
 IsCountedIn accepts old vote new b = ⊥
 
 -- the vote is not counted for this reason
 abbrev pub IsNotCounted : Meaning → Content → Content → GatherFault → Type 0
-IsNotCounted accepts (kind.Gather g) (kind.Checked (checked.Vote v) signature) why = IsGatherFault accepts g v why
+IsNotCounted accepts (kind.Gather g) (kind.Checked (checked.Vote v)) why = IsGatherFault accepts g v why
 IsNotCounted accepts gather vote why = ⊥
 
 -- the counted votes reach the quorum, and the content is their certificate, checked under the committee
 abbrev pub IsCertificateOf : Content → Content → Type 0
-IsCertificateOf (kind.Gather g) (kind.Checked (checked.Cert c) signature) =
+IsCertificateOf (kind.Gather g) (kind.Checked (checked.Cert c)) =
     ReachesQuorum g.committee (signers g.seals) × (c ≡ record { certificate = certificate_of g; committee = g.committee })
 IsCertificateOf gather other = ⊥
 

@@ -2,14 +2,13 @@
 use Rattle.std.specs.Prelude.{◌≡◌, ◌⊎◌, List}
 use Rattle.nw_committee.specs.declared.member.Member.{Member}
 use Rattle.nw_codec.specs.declared.block.Block.{Block}
-use Rattle.nw_codec.specs.declared.certificate.Signature.{Signature}
 use Rattle.nw_codec.specs.declared.vote.Vote.{Vote}
 use Rattle.nw_check.specs.Checked.{CheckedBlockView, CheckedCertView}
 use Rattle.nw_check.specs.Gathering.{Gathering}
 use Rattle.nw_check.specs.declared.message.Checked.{Checked}
 use Rattle.nw_check.specs.declared.message.Checked.TheVariants as checked
 use Rattle.nw_history.specs.Story.{Story}
-use Rattle.nw_book.specs.Answer.{DoneView}
+use Rattle.nw_book.specs.Answer.{AnswerView}
 use Rattle.nw_book.specs.Ticket.{TicketView}
 use Rattle.nw_shared_store.specs.Session.{SessionView, StoreId}
 use Rattle.nw_ed25519.specs.declared.scheme.Ed25519.{Ed25519}
@@ -27,19 +26,19 @@ HoldsCommittee c = (members : List Member) × (c ≡ kind.Committee members)
 
 -- it is a checked text
 abbrev pub HoldsChecked : Content → Type 0
-HoldsChecked c = (text : Checked Ed25519) × (signature : Signature) × (c ≡ kind.Checked text signature)
+HoldsChecked c = (text : Checked Ed25519) × (c ≡ kind.Checked text)
 
 -- it is a checked block
 abbrev pub HoldsCheckedBlock : Content → Type 0
-HoldsCheckedBlock c = (block : CheckedBlockView) × (signature : Signature) × (c ≡ kind.Checked (checked.Block block) signature)
+HoldsCheckedBlock c = (block : CheckedBlockView) × (c ≡ kind.Checked (checked.Block block))
 
 -- it is a checked certificate
 abbrev pub HoldsCheckedCert : Content → Type 0
-HoldsCheckedCert c = (certificate : CheckedCertView) × (signature : Signature) × (c ≡ kind.Checked (checked.Cert certificate) signature)
+HoldsCheckedCert c = (certificate : CheckedCertView) × (c ≡ kind.Checked (checked.Cert certificate))
 
 -- it is a vote
 abbrev pub HoldsVote : Content → Type 0
-HoldsVote c = (vote : Vote) × (signature : Signature) × (c ≡ kind.Checked (checked.Vote vote) signature)
+HoldsVote c = (vote : Vote) × (c ≡ kind.Checked (checked.Vote vote))
 
 -- it is a checked block or certificate
 abbrev pub CanBeHandedIn : Content → Type 0
@@ -55,7 +54,7 @@ HoldsGather c = (votes : Gathering) × (c ≡ kind.Gather votes)
 
 -- it is an answer
 abbrev pub HoldsAnswer : Content → Type 0
-HoldsAnswer c = (told : DoneView) × (c ≡ kind.Answer told)
+HoldsAnswer c = (told : AnswerView) × (c ≡ kind.Answer told)
 
 -- it is a ticket
 abbrev pub HoldsTicket : Content → Type 0

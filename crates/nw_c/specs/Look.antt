@@ -5,7 +5,7 @@ use Rattle.nw_sig.specs.Signed.{Meaning}
 use Rattle.nw_model.specs.Look.{AreLooks}
 use Rattle.nw_model.specs.declared.look.Look.{Look}
 use Rattle.nw_history.specs.Story.{state_of}
-use Rattle.nw_shared_store.specs.Held.{IsLookAfter}
+use Rattle.nw_book.specs.Answered.{IsLookAfter}
 use Rattle.nw_shared_store.specs.Session.{HasSeen, IsSameSession}
 use Rattle.nw_c.specs.declared.content.Content.{Content}
 use Rattle.nw_c.specs.declared.content.Content.TheVariants as kind

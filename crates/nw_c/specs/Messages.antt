@@ -1,6 +1,7 @@
 -- Checked texts and the fronts of texts, as C sees them.
 use Rattle.std.specs.Prelude.{◌≡◌, ℤ, pos, replicate}
 use Rattle.nw_digest.specs.declared.digest.Digest.{Digest}
+use Rattle.nw_codec.specs.Subject.{block_subject, certificate_subject, vote_subject}
 use Rattle.nw_codec.specs.declared.peek.Peek.{Peek}
 use Rattle.nw_codec.specs.declared.peek.Peek.TheVariants as peeks
 use Rattle.nw_codec.specs.declared.error.DecodeError.{DecodeError}
@@ -50,9 +51,9 @@ cert_kind cert_fault.NoMemory = pos 0
 
 -- m is what the checked text is: a block, certificate or vote with its subject, or a fault
 abbrev pub IsMessageOf : {S : Type 0} → Checked S → CMessage → Type 0
-IsMessageOf (checked.Block c) m = (m.kind ≡ BLOCK) × (m.subject ≡ subject_of (digest_of c.block) c.block.round c.block.author)
-IsMessageOf (checked.Cert c) m = (m.kind ≡ CERTIFICATE) × (m.subject ≡ subject_of c.certificate.digest c.certificate.round c.certificate.author)
-IsMessageOf (checked.Vote v) m = (m.kind ≡ VOTE) × (m.subject ≡ subject_of v.digest v.round v.author) × (m.signer ≡ v.signer)
+IsMessageOf (checked.Block c) m = (m.kind ≡ BLOCK) × (m.subject ≡ subject_of (block_subject (digest_of c.block) c.block))
+IsMessageOf (checked.Cert c) m = (m.kind ≡ CERTIFICATE) × (m.subject ≡ subject_of (certificate_subject c.certificate))
+IsMessageOf (checked.Vote v) m = (m.kind ≡ VOTE) × (m.subject ≡ subject_of (vote_subject v)) × (m.signer ≡ v.signer)
 IsMessageOf (checked.BadText e) m = m.kind ≡ text_kind e
 IsMessageOf (checked.BadBlock fault) m = m.kind ≡ block_kind fault
 IsMessageOf (checked.BadCert (cert_fault.Signature signer)) m = (m.kind ≡ CERT_SIGNATURE) × (m.signer ≡ signer)
@@ -64,6 +65,6 @@ no_digest = record { 0 = replicate 32 0 }
 
 -- m is what the front says: a block with its round and author, a certificate with its subject, or a vote with its subject and signer
 abbrev pub IsFrontOf : Peek → CMessage → Type 0
-IsFrontOf (peeks.Block round author) m = (m.kind ≡ BLOCK) × (m.subject ≡ subject_of no_digest round author)
-IsFrontOf (peeks.Certificate s) m = (m.kind ≡ CERTIFICATE) × (m.subject ≡ subject_of s.digest s.round s.author)
-IsFrontOf (peeks.Vote s signer) m = (m.kind ≡ VOTE) × (m.subject ≡ subject_of s.digest s.round s.author) × (m.signer ≡ signer)
+IsFrontOf (peeks.Block round author) m = (m.kind ≡ BLOCK) × (m.subject ≡ subject_of (record { digest = no_digest; round = round; author = author }))
+IsFrontOf (peeks.Certificate s) m = (m.kind ≡ CERTIFICATE) × (m.subject ≡ subject_of s)
+IsFrontOf (peeks.Vote s signer) m = (m.kind ≡ VOTE) × (m.subject ≡ subject_of s) × (m.signer ≡ signer)

@@ -55,14 +55,14 @@ IsCausalRead accepts d old new answer = ⊥
 
 -- the committee under which the block or certificate was checked
 abbrev pub committee_checked_under : Content → Option (List Member)
-committee_checked_under (kind.Checked (checked.Block b) signature) = Some b.committee
-committee_checked_under (kind.Checked (checked.Cert c) signature) = Some c.committee
+committee_checked_under (kind.Checked (checked.Block b)) = Some b.committee
+committee_checked_under (kind.Checked (checked.Cert c)) = Some c.committee
 committee_checked_under other = None
 
 -- the session handed in the checked block as a write, or the checked certificate as a certification, and this is the answer
 abbrev pub IsHandedInBy : Meaning → Content → Content → Content → Content → Type 0
-IsHandedInBy accepts (kind.Checked (checked.Block b) signature) old new answer = IsCalled accepts (call.Write (digest_of b.block) b.block) old new answer
-IsHandedInBy accepts (kind.Checked (checked.Cert c) signature) old new answer = IsCalled accepts (call.Certify c.certificate) old new answer
+IsHandedInBy accepts (kind.Checked (checked.Block b)) old new answer = IsCalled accepts (call.Write (digest_of b.block) b.block) old new answer
+IsHandedInBy accepts (kind.Checked (checked.Cert c)) old new answer = IsCalled accepts (call.Certify c.certificate) old new answer
 IsHandedInBy accepts other old new answer = ⊥
 
 -- it is a session, whose store is under the second committee, if there is one

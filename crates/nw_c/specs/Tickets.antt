@@ -1,10 +1,7 @@
 -- Tickets and the lists of their walks.
 use Rattle.std.specs.Prelude.{◌≡◌, ◌↔◌, ℕ, ℤ, pos, Bool, IsTrue, Some, None, length, slice_get}
-use Rattle.nw_model.specs.Step.{IsReply}
-use Rattle.nw_model.specs.declared.call.Call.TheVariants as call
-use Rattle.nw_model.specs.declared.reply.Reply.TheVariants as reply
-use Rattle.nw_history.specs.Story.{bounds_of, state_of}
-use Rattle.nw_book.specs.Ticket.{TicketView, HaveOneList}
+use Rattle.nw_history.specs.Story.{state_of}
+use Rattle.nw_book.specs.Ticket.{TicketView, HaveOneList, IsListOf}
 use Rattle.nw_c.specs.Plain.{digest_in}
 use Rattle.nw_c.specs.declared.plain.CDigest.{CDigest}
 use Rattle.nw_c.specs.declared.codes.TheConstants.{NOT_COMPARABLE, CLOSED, OTHER_KIND}
@@ -47,7 +44,7 @@ AreApart one other = ⊥
 
 -- it is the list in the reply to the ticket's causal read
 abbrev pub IsWalkOf : Content → Content → Type 0
-IsWalkOf (kind.Ticket given) (kind.List blocks) = IsReply (bounds_of given.front.limits) (state_of given.front) (call.Causal given.digest) (reply.List blocks)
+IsWalkOf (kind.Ticket given) (kind.List blocks) = IsListOf given blocks
 IsWalkOf ticket list = ⊥
 
 -- it is a list of n blocks

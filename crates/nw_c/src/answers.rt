@@ -1,9 +1,10 @@
 //! The replies that answers have: blocks, certificates, missing parents and counts.
 ghost use Rattle.std.specs.Prelude.{◌≡◌, ◌<◌, pos, take, true, length, None};
 ghost use Rattle.nw_model.specs.declared.reply.Reply.TheVariants as Reply;
-ghost use Rattle.nw_c.specs.Answers.{AnswersCertificate, AnswersMissing, AnswersOverLimit, AnswersRead, AnswersStatus, HasNoMissingAt, HasReply, EncodesCertificate, FindsBlock, IsMissingAt, EncodesStatus};
+ghost use Rattle.nw_c.specs.Answers.{AnswersCertificate, AnswersMissing, AnswersRead, AnswersStatus, HasNoMissingAt, HasReply, EncodesCertificate, FindsBlock, IsMissingAt, EncodesStatus};
 ghost use Rattle.nw_c.specs.Kinds.{IsUnchanged};
-ghost use Rattle.nw_c.specs.declared.codes.TheConstants.{ABSENT, CLOSED, OPEN, OTHER_KIND, OVER_LIMIT, SMALL};
+ghost use Rattle.nw_c.specs.Plain.{IsTooLong};
+ghost use Rattle.nw_c.specs.declared.codes.TheConstants.{ABSENT, CLOSED, NO_MEMORY, OPEN, OTHER_KIND, OVER_LIMIT, SMALL};
 
 use crate::codes::{ABSENT, CLOSED, DONE, NO_MEMORY, OPEN, OTHER_KIND};
 use crate::content::Content;
@@ -11,6 +12,7 @@ use crate::handle::{AnswerHandle, BlockHandle, put};
 use crate::hashed::HashedBlock;
 use crate::plain::CSubject;
 use crate::texts::hand_out_certificate;
+use nw_codec::Subject;
 use nw_model::Reply;
 use std::alloc::Global;
 
@@ -76,10 +78,9 @@ pub extern "C" fn nw_answer_block(
 }
 
 /// Writes the message of the certificate that a call for a certificate found. Writes its size to `needed`. Returns `NW_SMALL` if the buffer
-/// is smaller, `NW_ABSENT` if the call found no certificate, and `NW_OTHER_KIND` if the answer is to another call.
+/// is smaller, `NW_ABSENT` if the call found no certificate, and `NW_OTHER_KIND` if the answer is to another call. It needs no memory.
 #[unsafe(no_mangle)]
 pub extern "C" fn nw_answer_message(
-    alloc: Global,
     answer: &mut AnswerHandle,
     buffer: &mut [u8],
     needed: &mut usize,
@@ -90,19 +91,18 @@ pub extern "C" fn nw_answer_message(
     ensures closed { result ≡ CLOSED → answer.old.held ≡ true → ⊥ }
     ensures other_kind { result ≡ OTHER_KIND → AnswersCertificate answer.old.value → ⊥ }
     ensures absent { result ≡ ABSENT → HasReply answer.old.value (Reply.Certificate None) }
-    ensures over_limit { result ≡ OVER_LIMIT → AnswersOverLimit answer.old.value }
-    ensures small { result ≡ SMALL → length buffer.old < needed.new }
+    ensures over_limit { result ≡ OVER_LIMIT → ⊥ }
+    ensures no_memory { result ≡ NO_MEMORY → ⊥ }
+    ensures small { result ≡ SMALL → IsTooLong (EncodesCertificate answer.old.value) (length buffer.old) needed.new }
     ensures unchanged { (result ≡ pos 0 → ⊥) → buffer.new ≡ buffer.old }
 {
     if !answer.is_open() {
         return CLOSED;
     }
     match answer.lend() {
-        Content::Answer(done) => match done.reply() {
-            Reply::Certificate(Some(certificate)) => {
-                hand_out_certificate(alloc, certificate.get(), buffer, needed)
-            }
-            Reply::Certificate(None) => ABSENT,
+        Content::Answer(done) => match (done.certificate(), done.reply()) {
+            (Some(certificate), _) => { hand_out_certificate(certificate.get(), buffer, needed) }
+            (None, Reply::Certificate(None)) => ABSENT,
             _ => OTHER_KIND,
         },
         _ => OTHER_KIND,
@@ -134,7 +134,11 @@ pub extern "C" fn nw_answer_missing(
                 .get(index)
             {
                 Some(wanted) => {
-                    *out = CSubject::of(wanted.digest, wanted.round, wanted.author);
+                    *out = CSubject::of(&Subject {
+                        digest: wanted.digest,
+                        round: wanted.round,
+                        author: wanted.author,
+                    });
                     DONE
                 }
                 None => ABSENT,

@@ -1,16 +1,16 @@
 //! Reading blocks: their parts, bodies and messages.
 ghost use Rattle.std.specs.Prelude.{◌≡◌, ◌<◌, pos, take, true, length};
-ghost use Rattle.nw_c.specs.Blocks.{HasBody, HasCounts, HasMessage, HasNoParentAt, HasParentAt, HasSubject, IsBlockOverLimit};
+ghost use Rattle.nw_c.specs.Blocks.{HasBody, HasCounts, HasMessage, HasNoParentAt, HasParentAt, HasSubject};
 ghost use Rattle.nw_c.specs.Kinds.{IsUnchanged, HoldsBlock};
-ghost use Rattle.nw_c.specs.declared.codes.TheConstants.{ABSENT, CLOSED, OTHER_KIND, OVER_LIMIT, SMALL};
+ghost use Rattle.nw_c.specs.Plain.{IsTooLong};
+ghost use Rattle.nw_c.specs.declared.codes.TheConstants.{ABSENT, CLOSED, NO_MEMORY, OTHER_KIND, OVER_LIMIT, SMALL};
 
-use crate::codes::{ABSENT, CLOSED, DONE, OTHER_KIND, SMALL};
+use crate::codes::{ABSENT, CLOSED, DONE, OTHER_KIND};
 use crate::content::Content;
 use crate::handle::BlockHandle;
 use crate::plain::{CDigest, CSignature, CSubject};
-use crate::texts::{hand_out_block, hand_out_encoded, is_too_small};
-use nw_codec::{Signature, encode_body};
-use std::alloc::Global;
+use crate::texts::{hand_out_block, hand_out_body};
+use nw_codec::Signature;
 
 mod making;
 mod transactions;
@@ -37,7 +37,7 @@ pub extern "C" fn nw_block_subject(block: &mut BlockHandle, out: &mut CSubject) 
     let Content::Block(held) = block.lend() else {
         return OTHER_KIND;
     };
-    *out = CSubject::of(held.digest(), held.block().round, held.block().author);
+    *out = CSubject::of(&held.block().subject(held.digest()));
     DONE
 }
 
@@ -94,10 +94,9 @@ pub extern "C" fn nw_block_parent(block: &mut BlockHandle, index: usize, out: &m
 }
 
 /// Writes the encoded body of the block to the buffer. The block's digest is SHA-256 of these bytes. Writes their size to `needed`. Returns
-/// `NW_SMALL` if the buffer is smaller, and `NW_OVER_LIMIT` if the block breaks a limit of the format.
+/// `NW_SMALL` if the buffer is smaller. It needs no memory.
 #[unsafe(no_mangle)]
 pub extern "C" fn nw_block_body(
-    alloc: Global,
     block: &mut BlockHandle,
     buffer: &mut [u8],
     needed: &mut usize,
@@ -106,7 +105,8 @@ pub extern "C" fn nw_block_body(
     ensures same { IsUnchanged block.old block.new }
     ensures closed { result ≡ CLOSED → block.old.held ≡ true → ⊥ }
     ensures other_kind { result ≡ OTHER_KIND → HoldsBlock block.old.value → ⊥ }
-    ensures over_limit { result ≡ OVER_LIMIT → IsBlockOverLimit block.old.value }
+    ensures over_limit { result ≡ OVER_LIMIT → ⊥ }
+    ensures no_memory { result ≡ NO_MEMORY → ⊥ }
     ensures small { result ≡ SMALL → length buffer.old < needed.new }
     ensures unchanged { (result ≡ pos 0 → ⊥) → buffer.new ≡ buffer.old }
 {
@@ -114,22 +114,15 @@ pub extern "C" fn nw_block_body(
         return CLOSED;
     }
     match block.lend() {
-        Content::Block(held) => {
-            if is_too_small(held.block(), 0, buffer, needed) {
-                return SMALL;
-            }
-            let text = encode_body(alloc, held.block());
-            hand_out_encoded(text, buffer, needed)
-        }
+        Content::Block(held) => hand_out_body(held.block(), buffer, needed),
         _ => OTHER_KIND,
     }
 }
 
 /// Writes the message of the block with this signature, which can be sent to other members. Writes its size to `needed`. Returns `NW_SMALL`
-/// if the buffer is smaller, and `NW_OVER_LIMIT` if the block breaks a limit of the format. It does not check the signature.
+/// if the buffer is smaller. It does not check the signature, and needs no memory.
 #[unsafe(no_mangle)]
 pub extern "C" fn nw_block_message(
-    alloc: Global,
     block: &mut BlockHandle,
     signature: &CSignature,
     buffer: &mut [u8],
@@ -139,8 +132,10 @@ pub extern "C" fn nw_block_message(
     ensures same { IsUnchanged block.old block.new }
     ensures closed { result ≡ CLOSED → block.old.held ≡ true → ⊥ }
     ensures other_kind { result ≡ OTHER_KIND → HoldsBlock block.old.value → ⊥ }
-    ensures over_limit { result ≡ OVER_LIMIT → IsBlockOverLimit block.old.value }
-    ensures small { result ≡ SMALL → length buffer.old < needed.new }
+    ensures over_limit { result ≡ OVER_LIMIT → ⊥ }
+    ensures no_memory { result ≡ NO_MEMORY → ⊥ }
+    ensures small { result ≡ SMALL
+        → IsTooLong (HasMessage block.old.value signature.now) (length buffer.old) needed.new }
     ensures unchanged { (result ≡ pos 0 → ⊥) → buffer.new ≡ buffer.old }
 {
     if !block.is_open() {
@@ -149,7 +144,7 @@ pub extern "C" fn nw_block_message(
     match block.lend() {
         Content::Block(held) => {
             let signature = Signature(signature.bytes);
-            hand_out_block(alloc, held.block(), &signature, buffer, needed)
+            hand_out_block(held.block(), &signature, buffer, needed)
         }
         _ => OTHER_KIND,
     }

@@ -1,14 +1,11 @@
 //! Decoding and checking texts.
 ghost use Rattle.std.specs.Prelude.{◌≡◌, ◌<◌, pos, take, true, length, slice_get, IfSome, IsNone, Some, None};
 ghost use Rattle.nw_codec.specs.Fits.{signers};
-ghost use Rattle.nw_codec.specs.Spelled.{Spells};
-ghost use Rattle.nw_codec.specs.declared.block.Block.{Block};
-ghost use Rattle.nw_codec.specs.declared.certificate.Signature.{Signature};
-ghost use Rattle.nw_codec.specs.declared.message.Message.TheVariants as messages;
 ghost use Rattle.nw_ed25519.specs.Accepts.{accepts};
-ghost use Rattle.nw_c.specs.Checks.{HasNoSignerAt, HasSignerAt, IsBlockOf, IsCheckOf, IsOverLimit, IsSpelledBy, EncodesMessageOf};
+ghost use Rattle.nw_c.specs.Checks.{HasNoSignerAt, HasSignerAt, IsBlockOf, IsCheckOf, IsSpelledBy, EncodesMessageOf};
 ghost use Rattle.nw_c.specs.Kinds.{HoldsMessage, IsUnchanged, HoldsChecked, HoldsCheckedBlock, HoldsCheckedCert, HoldsCommittee};
-ghost use Rattle.nw_c.specs.declared.codes.TheConstants.{ABSENT, CLOSED, OPEN, OTHER_KIND, OVER_LIMIT, SMALL};
+ghost use Rattle.nw_c.specs.Plain.{IsTooLong};
+ghost use Rattle.nw_c.specs.declared.codes.TheConstants.{ABSENT, CLOSED, NO_MEMORY, OPEN, OTHER_KIND, OVER_LIMIT, SMALL};
 
 use crate::codes::{ABSENT, CLOSED, DONE, NO_MEMORY, OPEN, OTHER_KIND};
 use crate::content::Content;
@@ -17,7 +14,6 @@ use crate::hashed::HashedBlock;
 use crate::messages::{CMessage, message_of};
 use crate::texts::{hand_out_block, hand_out_certificate, hand_out_vote};
 use nw_check::{Checked, CheckedCert, check_message_by};
-use nw_codec::Signature;
 use nw_ed25519::Ed25519;
 use std::alloc::Global;
 
@@ -48,10 +44,7 @@ pub extern "C" fn nw_check(
         Content::Committee(members) => {
             let members = members.get();
             match check_message_by::<Ed25519, _>(alloc, members.committee(), members, text) {
-                Ok(checked) => {
-                    let content = Content::Checked(checked, last_signature(text));
-                    put(alloc, out, content)
-                }
+                Ok(checked) => put(alloc, out, Content::Checked(checked)),
                 Err(_) => NO_MEMORY,
             }
         }
@@ -71,7 +64,7 @@ pub extern "C" fn nw_checked_kind(checked: &mut CheckedHandle, out: &mut CMessag
         return CLOSED;
     }
     match checked.lend() {
-        Content::Checked(checked, _) => {
+        Content::Checked(checked) => {
             *out = message_of(checked);
             DONE
         }
@@ -101,7 +94,7 @@ pub extern "C" fn nw_checked_block(
         return OPEN;
     }
     match checked.lend() {
-        Content::Checked(Checked::Block(checked), _) => match checked.block().try_clone() {
+        Content::Checked(Checked::Block(checked)) => match checked.block().try_clone() {
             Ok(block) => {
                 let block = HashedBlock::new(checked.digest(), block);
                 put(alloc, out, Content::Block(block))
@@ -113,10 +106,10 @@ pub extern "C" fn nw_checked_block(
 }
 
 /// Writes the message of the checked block, certificate or vote, which can be sent to other members. Writes its size to `needed`. Returns
-/// `NW_SMALL` if the buffer is smaller, and `NW_OTHER_KIND` if the text is neither a valid block, nor a valid certificate, nor a vote.
+/// `NW_SMALL` if the buffer is smaller, and `NW_OTHER_KIND` if the text is neither a valid block, nor a valid certificate, nor a vote. It
+/// needs no memory.
 #[unsafe(no_mangle)]
 pub extern "C" fn nw_checked_message(
-    alloc: Global,
     checked: &mut CheckedHandle,
     buffer: &mut [u8],
     needed: &mut usize,
@@ -125,38 +118,28 @@ pub extern "C" fn nw_checked_message(
     ensures same { IsUnchanged checked.old checked.new }
     ensures closed { result ≡ CLOSED → checked.old.held ≡ true → ⊥ }
     ensures other_kind { result ≡ OTHER_KIND → HoldsMessage checked.old.value → ⊥ }
-    ensures over_limit { result ≡ OVER_LIMIT → IsOverLimit checked.old.value }
-    ensures small { result ≡ SMALL → length buffer.old < needed.new }
+    ensures over_limit { result ≡ OVER_LIMIT → ⊥ }
+    ensures no_memory { result ≡ NO_MEMORY → ⊥ }
+    ensures small { result ≡ SMALL → IsTooLong (IsSpelledBy checked.old.value) (length buffer.old) needed.new }
     ensures unchanged { (result ≡ pos 0 → ⊥) → buffer.new ≡ buffer.old }
 {
     if !checked.is_open() {
         return CLOSED;
     }
-    let Content::Checked(checked, signature) = checked.lend() else {
+    let Content::Checked(checked) = checked.lend() else {
         return OTHER_KIND;
     };
     match checked {
         Checked::Block(checked) => {
-            hand_out_block(alloc, checked.block().get(), signature, buffer, needed)
+            let (block, signature) = (checked.block().get(), checked.signature());
+            hand_out_block(block, &signature, buffer, needed)
         }
         Checked::Cert(checked) => {
-            hand_out_certificate(alloc, checked.certificate().get(), buffer, needed)
+            hand_out_certificate(checked.certificate().get(), buffer, needed)
         }
-        Checked::Vote(vote) => hand_out_vote(alloc, vote, buffer, needed),
+        Checked::Vote(vote) => hand_out_vote(vote, buffer, needed),
         _ => OTHER_KIND,
     }
-}
-
-/// The signature in the text of a block: its last 64 bytes. Zeros if the text is shorter.
-#[tactic(auto, using(crate::proofs::Signed::ends_with))]
-fn last_signature(text: &[u8]) -> Signature
-    ensures { (b : Block) (signature : Signature) → Spells text.now (messages.Block b signature) → result ≡ signature }
-{
-    let mut bytes = [0; 64];
-    if text.len() >= 64 {
-        bytes.copy_from_slice(&text[text.len() - 64..]);
-    }
-    Signature(bytes)
 }
 
 /// The number of the certificate's signer at the index.
@@ -186,7 +169,7 @@ pub extern "C" fn nw_checked_signer(checked: &mut CheckedHandle, index: usize, o
         return CLOSED;
     }
     match checked.lend() {
-        Content::Checked(Checked::Cert(certificate), _) => match signer_at(certificate, index) {
+        Content::Checked(Checked::Cert(certificate)) => match signer_at(certificate, index) {
             Some(signer) => {
                 *out = signer;
                 DONE

@@ -44,6 +44,7 @@ fn committee_of(alloc: Global, listed: &[CMember]) -> Result<Shared<Committee>, 
     ensures bad_committee { IfErr result
         (λ why. why ≡ BAD_COMMITTEE → IsValid (map member_in listed.now) → ⊥) }
 {
+    // Before anything is copied.
     if listed.len() > MAX_MEMBERS {
         return Err(BAD_COMMITTEE);
     }

@@ -6,7 +6,6 @@ use crate::given::Given;
 use crate::hashed::HashedBlock;
 use nw_book::{Done, Ticket};
 use nw_check::Checked;
-use nw_codec::Signature;
 use nw_digest::{Sequence, Shared};
 use nw_ed25519::Ed25519;
 use nw_history::Front;
@@ -20,8 +19,8 @@ pub enum Content {
     Room,
     /// Members with weights and prepared keys.
     Committee(Shared<PreparedCommittee>),
-    /// The result of decoding and checking a text, and the signature in the message of a block.
-    Checked(Checked<Ed25519>, Signature),
+    /// The result of decoding and checking a text.
+    Checked(Checked<Ed25519>),
     /// The votes for one block.
     Gather(PreparedGather),
     /// The answer to a call.

@@ -14,8 +14,6 @@ use crate::content::Content;
 use crate::handle::{CheckedHandle, CommitteeHandle, GatherHandle, put};
 use crate::plain::CSubject;
 use nw_check::{Checked, Counted, FinishFault, StartFault};
-use nw_codec::Signature;
-use nw_digest::Round;
 use nw_prepared::PreparedGather;
 use std::alloc::Global;
 
@@ -47,10 +45,16 @@ pub extern "C" fn nw_gather_new(
     let Content::Committee(members) = committee.lend() else {
         return OTHER_KIND;
     };
-    let Some(round) = Round::new(subject.round) else {
+    let Some(subject) = subject.get() else {
         return BAD_ROUND;
     };
-    match PreparedGather::new(alloc, members, subject.digest.get(), round, subject.author) {
+    match PreparedGather::new(
+        alloc,
+        members,
+        subject.digest,
+        subject.round,
+        subject.author,
+    ) {
         Ok(gather) => put(alloc, out, Content::Gather(gather)),
         Err(StartFault::Author) => NO_MEMBER,
         Err(StartFault::NoMemory) => NO_MEMORY,
@@ -80,15 +84,13 @@ pub extern "C" fn nw_gather_add(
         return CLOSED;
     }
     match (gather.lend(), vote.lend()) {
-        (Content::Gather(gather), Content::Checked(Checked::Vote(vote), _)) => {
-            match gather.add(vote) {
-                Ok(counted) => {
-                    *quorum = counted == Counted::Quorum;
-                    DONE
-                }
-                Err(why) => code_of_vote(why),
+        (Content::Gather(gather), Content::Checked(Checked::Vote(vote))) => match gather.add(vote) {
+            Ok(counted) => {
+                *quorum = counted == Counted::Quorum;
+                DONE
             }
-        }
+            Err(why) => code_of_vote(why),
+        },
         _ => OTHER_KIND,
     }
 }
@@ -118,10 +120,7 @@ pub extern "C" fn nw_gather_certificate(
     }
     match gather.lend() {
         Content::Gather(gather) => match gather.finish(alloc) {
-            Ok(certificate) => {
-                let content = Content::Checked(Checked::Cert(certificate), Signature([0; 64]));
-                put(alloc, out, content)
-            }
+            Ok(certificate) => put(alloc, out, Content::Checked(Checked::Cert(certificate))),
             Err(FinishFault::FewVotes) => FEW_VOTES,
             Err(FinishFault::NoMemory) => NO_MEMORY,
         },

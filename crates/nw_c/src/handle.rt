@@ -9,7 +9,7 @@ use std::marker::Model;
 mod calls;
 mod put;
 
-pub(crate) use put::{open, put};
+pub(crate) use put::{nw_free, open, put, room};
 
 /// A handle as C sees it: one pointer, which is null while the handle is closed.
 #[repr(C)]

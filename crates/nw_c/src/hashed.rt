@@ -1,12 +1,13 @@
 //! Blocks with their digests.
 ghost use Rattle.std.specs.Prelude.{◌≡◌, IfOk};
+ghost use Rattle.nw_codec.specs.Fits.{Fits};
 ghost use Rattle.nw_model.specs.Checks.{digest_of};
 
 use nw_codec::Block;
 use nw_digest::{Digest, NoMemory, Shared};
 use std::marker::Model;
 
-/// A block and its digest, which was computed before. Contracts see the block.
+/// A block that fits the format, and its digest, which was computed before. Contracts see the block.
 #[derive(Drop)]
 pub struct HashedBlock {
     digest: Digest,
@@ -15,6 +16,7 @@ pub struct HashedBlock {
 
 impl Model for HashedBlock {
     ghost use Rattle.std.specs.Prelude.{◌≡◌};
+    ghost use Rattle.nw_codec.specs.Fits.{Fits};
     ghost use Rattle.nw_codec.specs.declared.block.Block.{Block};
     ghost use Rattle.nw_model.specs.Checks.{digest_of};
 
@@ -22,13 +24,14 @@ impl Model for HashedBlock {
 
     ghost view = { λ h. h.block };
 
-    ghost invariant = { λ h. h.digest ≡ digest_of h.block };
+    ghost invariant = { λ h. (h.digest ≡ digest_of h.block) × Fits h.block };
 }
 
 impl HashedBlock {
     /// The block with its digest.
     pub fn new(digest: Digest, block: Shared<Block>) -> HashedBlock
-        requires { digest ≡ digest_of block }
+        requires digest { digest ≡ digest_of block }
+        requires fits { Fits block }
         ensures { result ≡ block }
     {
         HashedBlock { digest, block }
@@ -53,7 +56,8 @@ impl HashedBlock {
 
     /// The block.
     pub fn block(&self) -> &Block
-        ensures { result.now ≡ self.now }
+        ensures block { result.now ≡ self.now }
+        ensures fits { Fits self.now }
     {
         self.block.get()
     }

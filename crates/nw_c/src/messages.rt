@@ -1,10 +1,12 @@
 //! The kinds of texts.
 ghost use Rattle.std.specs.Prelude.{◌≡◌, pos};
 ghost use Rattle.nw_c.specs.Messages.{IsMessageOf, block_kind, cert_kind, text_kind};
+ghost use Rattle.nw_c.specs.Plain.{subject_of};
 
-use crate::plain::{CDigest, CSubject};
+use crate::plain::CSubject;
 use nw_check::{BlockFault, CertFault, Checked};
-use nw_codec::DecodeError;
+use nw_codec::{DecodeError, Subject};
+use nw_digest::{Digest, Round};
 use nw_ed25519::Ed25519;
 
 /// A block. A checked one is valid.
@@ -111,20 +113,30 @@ fn kind_of_cert(fault: &CertFault) -> i32
     }
 }
 
+/// A message of this kind, signer and subject.
+pub(crate) fn about(kind: i32, signer: u16, subject: &Subject) -> CMessage
+    ensures kind { result.kind ≡ kind }
+    ensures signer { result.signer ≡ signer }
+    ensures subject { result.subject ≡ subject_of subject.now }
+{
+    CMessage {
+        kind,
+        signer,
+        subject: CSubject::of(subject),
+    }
+}
+
 /// A message of this kind and signer, without a subject.
 fn faulty(kind: i32, signer: u16) -> CMessage
     ensures kind { result.kind ≡ kind }
     ensures signer { result.signer ≡ signer }
 {
-    CMessage {
-        kind,
-        signer,
-        subject: CSubject {
-            digest: CDigest { bytes: [0; 32] },
-            round: 0,
-            author: 0,
-        },
-    }
+    let subject = Subject {
+        digest: Digest([0; 32]),
+        round: Round::ZERO,
+        author: 0,
+    };
+    about(kind, signer, &subject)
 }
 
 /// What the checked text is.
@@ -133,26 +145,11 @@ pub(crate) fn message_of(checked: &Checked<Ed25519>) -> CMessage
 {
     match checked {
         Checked::Block(checked) => {
-            let block = checked.block().get();
-            CMessage {
-                kind: BLOCK,
-                signer: 0,
-                subject: CSubject::of(checked.digest(), block.round, block.author),
-            }
+            let subject = checked.block().get().subject(checked.digest());
+            about(BLOCK, 0, &subject)
         }
-        Checked::Cert(checked) => {
-            let certificate = checked.certificate().get();
-            CMessage {
-                kind: CERTIFICATE,
-                signer: 0,
-                subject: CSubject::of(certificate.digest, certificate.round, certificate.author),
-            }
-        }
-        Checked::Vote(vote) => CMessage {
-            kind: VOTE,
-            signer: vote.signer,
-            subject: CSubject::of(vote.digest, vote.round, vote.author),
-        },
+        Checked::Cert(checked) => about(CERTIFICATE, 0, &checked.certificate().get().subject()),
+        Checked::Vote(vote) => about(VOTE, vote.signer, &vote.subject()),
         Checked::BadText(fault) => faulty(kind_of_text(*fault), 0),
         Checked::BadBlock(fault) => faulty(kind_of_block(*fault), 0),
         Checked::BadCert(CertFault::Signature { signer }) => faulty(CERT_SIGNATURE, *signer),

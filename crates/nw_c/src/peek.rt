@@ -8,9 +8,8 @@ ghost use Rattle.nw_c.specs.Messages.{IsFrontOf};
 ghost use Rattle.nw_c.specs.declared.codes.TheConstants.{ABSENT};
 
 use crate::codes::{ABSENT, DONE};
-use crate::messages::{BLOCK, CERTIFICATE, CMessage, VOTE};
-use crate::plain::CSubject;
-use nw_codec::{Peek, peek_message};
+use crate::messages::{BLOCK, CERTIFICATE, CMessage, VOTE, about};
+use nw_codec::{Peek, Subject, peek_message};
 use nw_digest::Digest;
 
 /// Writes what the front of the text says: the kind of message, its round and author, the digest of a certificate or vote, and the signer
@@ -41,20 +40,15 @@ fn message_of_front(front: &Peek) -> CMessage
     ensures { IsFrontOf front.now result }
 {
     match front {
-        Peek::Block { round, author } => CMessage {
-            kind: BLOCK,
-            signer: 0,
-            subject: CSubject::of(Digest([0; 32]), *round, *author),
-        },
-        Peek::Certificate(subject) => CMessage {
-            kind: CERTIFICATE,
-            signer: 0,
-            subject: CSubject::of(subject.digest, subject.round, subject.author),
-        },
-        Peek::Vote { subject, signer } => CMessage {
-            kind: VOTE,
-            signer: *signer,
-            subject: CSubject::of(subject.digest, subject.round, subject.author),
-        },
+        Peek::Block { round, author } => {
+            let subject = Subject {
+                digest: Digest([0; 32]),
+                round: *round,
+                author: *author,
+            };
+            about(BLOCK, 0, &subject)
+        }
+        Peek::Certificate(subject) => about(CERTIFICATE, 0, subject),
+        Peek::Vote { subject, signer } => about(VOTE, *signer, subject),
     }
 }

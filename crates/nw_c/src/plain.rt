@@ -1,7 +1,9 @@
 //! Plain values that cross between C and the store.
-ghost use Rattle.std.specs.Prelude.{◌≡◌};
-ghost use Rattle.nw_c.specs.Plain.{digest_in, subject_of};
+ghost use Rattle.std.specs.Prelude.{◌≡◌, ◌<◌, ◌^◌};
+ghost use Rattle.std.specs.Option.{SomeIff};
+ghost use Rattle.nw_c.specs.Plain.{digest_in, subject_in, subject_of};
 
+use nw_codec::Subject;
 use nw_digest::{Digest, Round};
 
 /// A digest: 32 bytes of SHA-256.
@@ -38,15 +40,26 @@ pub struct CTagged {
 }
 
 impl CSubject {
-    /// The subject of this digest, round and author.
-    pub(crate) fn of(digest: Digest, round: Round, author: u16) -> CSubject
-        ensures { result ≡ subject_of digest round author }
+    /// The subject as C sees it.
+    pub(crate) fn of(subject: &Subject) -> CSubject
+        ensures { result ≡ subject_of subject.now }
     {
         CSubject {
-            digest: CDigest::of(&digest),
-            round: round.get(),
-            author,
+            digest: CDigest::of(&subject.digest),
+            round: subject.round.get(),
+            author: subject.author,
         }
+    }
+
+    /// The subject as a value of the store, or `None` if the round is not below 2^48.
+    pub fn get(&self) -> Option<Subject>
+        ensures { SomeIff result (self.now.round < 2 ^ 48) (subject_in self.now) }
+    {
+        Some(Subject {
+            digest: self.digest.get(),
+            round: Round::new(self.round)?,
+            author: self.author,
+        })
     }
 }
 

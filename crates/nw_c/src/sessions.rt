@@ -111,11 +111,11 @@ pub extern "C" fn nw_session_hand_in(
     }
     let content: &Content = checked.lend();
     match content {
-        Content::Checked(Checked::Block(block), _) => {
+        Content::Checked(Checked::Block(block)) => {
             let write = Command::Write(block);
             call(alloc, session, answer, &write)
         }
-        Content::Checked(Checked::Cert(certificate), _) => {
+        Content::Checked(Checked::Cert(certificate)) => {
             let certify = Command::Certify(certificate);
             call(alloc, session, answer, &certify)
         }

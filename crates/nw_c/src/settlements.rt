@@ -8,7 +8,7 @@ ghost use Rattle.nw_c.specs.declared.codes.TheConstants.{ABSENT, CLOSED, OPEN, O
 use crate::codes::{ABSENT, CLOSED, DONE, NO_MEMORY, OPEN, OTHER_KIND, UNSETTLED};
 use crate::content::{Content, is_room};
 use crate::given::Given;
-use crate::handle::{AnswerHandle, Handle, SessionHandle, SettlementHandle, open, put};
+use crate::handle::{AnswerHandle, SessionHandle, SettlementHandle, nw_free, open, put, room};
 use crate::stores::code_of_refusal;
 use nw_shared_store::Unsettled;
 use std::alloc::Global;
@@ -51,8 +51,7 @@ pub extern "C" fn nw_settlement_give(
     match std::mem::replace(session.lend(), Content::Room) {
         Content::Session(next) => match given.push(next) {
             Ok(()) => {
-                let room = std::mem::replace(session, Handle::closed(alloc));
-                drop(room.into_parts().into_box());
+                nw_free(alloc, session);
                 DONE
             }
             Err(back) => {
@@ -128,12 +127,8 @@ pub extern "C" fn nw_settlement_take(
         return OTHER_KIND;
     };
     // The room comes first, so that no session is lost.
-    let mut room = match Box::new(alloc, Content::Room) {
-        Ok(room) => room,
-        Err(refused) => {
-            drop(refused);
-            return NO_MEMORY;
-        }
+    let Some(mut room) = room(alloc) else {
+        return NO_MEMORY;
     };
     match given.pop() {
         Some(session) => {

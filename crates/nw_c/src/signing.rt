@@ -3,17 +3,16 @@ ghost use Rattle.std.specs.Prelude.{◌≡◌, ◌^◌, ◌≤◌, ◌<◌, pos,
 ghost use Rattle.sha2.specs.Sha256.{sha256};
 ghost use Rattle.nw_codec.specs.Spelled.{Spells};
 ghost use Rattle.nw_sig.specs.Signed.{text_of_block, text_of_vote};
-ghost use Rattle.nw_c.specs.Plain.{digest_in};
+ghost use Rattle.nw_c.specs.Plain.{IsTooLong, digest_in, subject_in};
 ghost use Rattle.nw_c.specs.Votes.{vote_of};
-ghost use Rattle.nw_c.specs.declared.codes.TheConstants.{BAD_ROUND, SMALL};
+ghost use Rattle.nw_c.specs.declared.codes.TheConstants.{BAD_ROUND, NO_MEMORY, SMALL};
 
 use crate::codes::{BAD_ROUND, DONE};
 use crate::plain::{CDigest, CSignature, CSubject};
 use crate::texts::hand_out_vote;
 use nw_codec::{Signature, Vote};
-use nw_digest::{Round, digest_of};
+use nw_digest::digest_of;
 use nw_sig::{text_of_block, text_of_vote};
-use std::alloc::Global;
 
 /// The 36 bytes that the author of a block signs.
 #[repr(C)]
@@ -51,24 +50,23 @@ pub extern "C" fn nw_text_of_block(digest: &CDigest, out: &mut CBlockText)
 /// below 2^48.
 #[unsafe(no_mangle)]
 pub extern "C" fn nw_text_of_vote(subject: &CSubject, out: &mut CVoteText) -> i32
-    ensures text { result ≡ pos 0 → out.new.bytes
-        ≡ text_of_vote (digest_in subject.now.digest) subject.now.round subject.now.author }
+    ensures text { result ≡ pos 0 → out.new.bytes ≡ text_of_vote (subject_in subject.now) }
     ensures bad_round { result ≡ BAD_ROUND → 2 ^ 48 ≤ subject.now.round }
 {
-    let Some(round) = Round::new(subject.round) else {
+    let Some(subject) = subject.get() else {
         return BAD_ROUND;
     };
     *out = CVoteText {
-        bytes: text_of_vote(&subject.digest.get(), round, subject.author),
+        bytes: text_of_vote(&subject),
     };
     DONE
 }
 
 /// Writes the message of the signer's vote for the block of this digest, round and author: 107 bytes. Writes this size to `needed`. Returns
-/// `NW_SMALL` if the buffer is smaller, and `NW_BAD_ROUND` if the round is not below 2^48. It does not check the signature.
+/// `NW_SMALL` if the buffer is smaller, and `NW_BAD_ROUND` if the round is not below 2^48. It does not check the signature, and needs no
+/// memory.
 #[unsafe(no_mangle)]
 pub extern "C" fn nw_vote_message(
-    alloc: Global,
     subject: &CSubject,
     signer: u16,
     signature: &CSignature,
@@ -78,18 +76,20 @@ pub extern "C" fn nw_vote_message(
     ensures message { result ≡ pos 0 → Spells (take needed.new buffer.new)
         (vote_of subject.now signer signature.now) }
     ensures bad_round { result ≡ BAD_ROUND → 2 ^ 48 ≤ subject.now.round }
-    ensures small { result ≡ SMALL → length buffer.old < needed.new }
+    ensures no_memory { result ≡ NO_MEMORY → ⊥ }
+    ensures small { result ≡ SMALL
+        → IsTooLong (λ text. Spells text (vote_of subject.now signer signature.now)) (length buffer.old) needed.new }
     ensures unchanged { (result ≡ pos 0 → ⊥) → buffer.new ≡ buffer.old }
 {
-    let Some(round) = Round::new(subject.round) else {
+    let Some(subject) = subject.get() else {
         return BAD_ROUND;
     };
     let vote = Vote {
-        digest: subject.digest.get(),
-        round,
+        digest: subject.digest,
+        round: subject.round,
         author: subject.author,
         signer,
         signature: Signature(signature.bytes),
     };
-    hand_out_vote(alloc, &vote, buffer, needed)
+    hand_out_vote(&vote, buffer, needed)
 }

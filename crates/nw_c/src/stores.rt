@@ -13,7 +13,7 @@ use crate::codes::{
 };
 use crate::committees::put_prepared;
 use crate::content::Content;
-use crate::handle::{CommitteeHandle, SessionHandle, StoreHandle, open, put};
+use crate::handle::{CommitteeHandle, SessionHandle, StoreHandle, open, put, room};
 use nw_book::{BookError, Limits};
 use nw_ed25519::Ed25519;
 use nw_shared_store::{Refusal, SharedStore};
@@ -151,12 +151,8 @@ pub extern "C" fn nw_store_session(
         return OTHER_KIND;
     };
     // The room comes first, because a session that is made is counted.
-    let mut room = match Box::new(alloc, Content::Room) {
-        Ok(room) => room,
-        Err(refused) => {
-            drop(refused);
-            return NO_MEMORY;
-        }
+    let Some(mut room) = room(alloc) else {
+        return NO_MEMORY;
     };
     match held.session() {
         Ok(session) => {

@@ -1,5 +1,5 @@
 -- The walks of a digest in two views are equal exactly when no two blocks collide at its ancestors.
-use Rattle.std.proofs.Common.{◌≡◌, ◌⊎◌, ◌+◌, ◌<◌, ◌≤◌, List, [], ◌∷◌, Some, map, refl, ap, sym, ◌∙◌, subst, arith, inl, inr}
+use Rattle.std.proofs.Common.{◌≡◌, ◌⊎◌, ◌+◌, ◌<◌, List, [], ◌∷◌, Some, map, refl, ap, sym, ◌∙◌, subst, arith, inl, inr}
 use Rattle.std.specs.Prelude.{Contains}
 use Rattle.std.specs.FinMap.{FinMap, get}
 use Rattle.std.proofs.lemmas.List.Elements.{All-contains}
@@ -7,23 +7,18 @@ use Rattle.nw_digest.specs.declared.digest.Digest.{Digest}
 use Rattle.nw_codec.specs.declared.block.Ref.{Ref}
 use Rattle.nw_codec.specs.declared.block.Block.{Block}
 use Rattle.nw_digest.specs.Order.{digest_cmp}
+use Rattle.nw_digest.proofs.Elements.{contains_first, contains_later}
 use Rattle.nw_model.specs.State.{block_slot}
 use Rattle.nw_model.specs.View.{Frozen, HasParent, IsClosed, HasBlock, IsParentIn, IsPathIn, IsAncestorIn, IsWalk}
 use Rattle.nw_model.proofs.Complete.{one_block}
-use Rattle.nw_model.proofs.Listed.{contains_first, contains_later, block_of, digest_of}
-use Rattle.nw_causal.specs.Agreement.{HaveOneWalk, CollideAt, IsMatched, IsRival, MatchAt}
+use Rattle.nw_model.proofs.Listed.{block_of, digest_of}
+use Rattle.nw_causal.specs.Agreement.{HaveOneWalk, CollideAt, IsMatched, MatchAt}
 
 -- ---- the other block under a digest
 
--- a rival collides with the first view's block
-pub collide_at : (v w : Frozen) (e : Digest) (b c : Block) → v.floor ≡ w.floor → get v.blocks e ≡ Some b → IsRival w e b c → CollideAt v w e b c
-collide_at v w e b c floor at (above, there, differ) = ((at, subst (λ n. n ≤ b.round) (sym floor) above), there, differ)
-
 -- if the first view's block has no rival, the blocks match
-pub match_at : (v w : Frozen) (e : Digest) (b : Block) → v.floor ≡ w.floor → get v.blocks e ≡ Some b → IsMatched w e b → MatchAt v w e
-match_at v w e b floor at matched p q (at_p, above_p) there_q =
-    let same : p ≡ b = one_block p b at_p at in
-    same ∙ matched (subst (λ n. n ≤ b.round) floor (subst (λ (z : Block). v.floor ≤ z.round) same above_p)) q there_q
+pub match_at : (v w : Frozen) (e : Digest) (b : Block) → get v.blocks e ≡ Some b → IsMatched w e b → MatchAt v w e
+match_at v w e b at matched p q there_p there_q = one_block p b there_p.0 at ∙ matched q there_q
 
 -- ---- down from a block of both views
 

@@ -1,5 +1,5 @@
 -- The ancestors of a block are found round by round.
-use Rattle.std.proofs.Common.{◌≡◌, ◌⊎◌, ℕ, ◌+◌, ◌<◌, ◌≤◌, List, [], ◌∷◌, ◌++◌, Some, All, refl, ap, sym, ◌∙◌, subst, arith, inl, inr}
+use Rattle.std.proofs.Common.{◌≡◌, ◌⊎◌, ℕ, ◌+◌, ◌<◌, ◌≤◌, List, [], ◌∷◌, ◌++◌, Some, All, ap, sym, ◌∙◌, subst, arith, inl, inr}
 use Rattle.std.specs.Prelude.{Contains}
 use Rattle.std.specs.FinMap.{get}
 use Rattle.std.specs.List.Sorted.{IsStrictlySortedBy}
@@ -11,7 +11,8 @@ use Rattle.nw_model.specs.Search.{IsParentOfAny}
 use Rattle.nw_model.specs.View.{Frozen, IsClosed, HasBlock, IsParentIn, IsPathIn, IsAncestorIn}
 use Rattle.nw_model.proofs.Complete.{one_block}
 use Rattle.nw_model.proofs.Finding.{there_is}
-use Rattle.nw_model.proofs.Listed.{contains_first, contains_cases, contains_none}
+use Rattle.nw_model.proofs.Ancestors.{path_on}
+use Rattle.nw_digest.proofs.Elements.{contains_first, contains_cases, contains_none}
 use Rattle.nw_causal.specs.declared.ancestor.Ancestor.{Ancestor}
 use Rattle.nw_causal.specs.Looked.{AreAt, AreFound, Gains, IsLevel, descending, digests}
 use Rattle.nw_causal.proofs.Agreeing.{named_by}
@@ -31,11 +32,6 @@ pub record Explores (v : Frozen) (d : Digest) (found level : List Ancestor) (rou
   pub first : IsIn found level d
   pub only : (e : Digest) → IsIn found level e → IsAncestorIn v d e
   pub whole : (e f : Digest) → Contains (digests found) e → IsParentIn v e f → IsIn found level f
-
--- a path to a digest continues to its parents
-path_on : (v : Frozen) (d e f : Digest) (path : List Digest) → IsPathIn v d path e → IsParentIn v e f → (b : Block) × HasBlock v f b → IsPathIn v d (path ++ f ∷ []) f
-path_on v d e f [] (there, same) parent last = (subst (λ q. IsParentIn v q f) (sym same) parent, (last, refl))
-path_on v d e f (next ∷ path) (step, on) parent last = (step, path_on v next e f path on parent last)
 
 -- a parent of an ancestor is an ancestor
 ancestor_on : (v : Frozen) (d e f : Digest) → IsClosed v → IsAncestorIn v d e → IsParentIn v e f → IsAncestorIn v d f

@@ -10,16 +10,17 @@ use Rattle.std.specs.FinMap.{get}
 use Rattle.std.proofs.lemmas.Bool.{cases_lt}
 use Rattle.std.proofs.lemmas.Bool.Decides.{nat_tests}
 use Rattle.std.proofs.lemmas.Cmp.{ranked}
-use Rattle.std.proofs.lemmas.List.{take-append-drop, length-map, length-reverse, length-drop, length-take-le, reverse-append, get_or-map, get_or-take, get_or-drop, get_or-reverse}
+use Rattle.std.proofs.lemmas.List.{take-append-drop, length-map, length-reverse, length-drop, length-take-le, get_or-map, get_or-take, get_or-drop, get_or-reverse}
 use Rattle.std.proofs.lemmas.List.Elements.{All-nil, All-cons, All-head, All-tail, All-append, All-contains, All-contains_itself, All-from_recursion, All-weaker, Contains-get_or, recursion_from_All}
 use Rattle.std.proofs.lemmas.List.Sorted.{All-permutation, Contains-permutation, IsPermutation-insert, IsPermutation-map, IsPermutation-reverse, IsPermutation-sym}
 use Rattle.std.proofs.lemmas.Map.Keys.{Less-from_sorted, sorted_from_all_adjacent}
 use Rattle.nw_digest.specs.declared.digest.Digest.{Digest}
+use Rattle.nw_digest.proofs.Elements.{contains_first, contains_later, contains_cases, contains_none}
 use Rattle.nw_codec.specs.declared.block.Ref.{Ref}
 use Rattle.nw_codec.specs.declared.block.Block.{Block}
 use Rattle.nw_model.specs.Paths.{block_cmp}
 use Rattle.nw_model.specs.View.{Frozen, HasBlock, HasParent, IsClosed, IsWalk}
-use Rattle.nw_model.proofs.Listed.{blocks_total, contains_first, contains_later, contains_cases, contains_none}
+use Rattle.nw_model.proofs.Listed.{blocks_total}
 use Rattle.nw_causal.specs.declared.ancestor.Ancestor.{Ancestor}
 use Rattle.nw_model.proofs.Complete.{one_block}
 use Rattle.nw_model.proofs.Views.{last_there}
@@ -123,13 +124,17 @@ walk_of v d found are = record {
     moved : IsPermutation (digests found) (digests (reverse found))
     moved = IsPermutation-map (λ (x : Ancestor). x.digest.now) found (reverse found) (IsPermutation-reverse found)
 
--- the view has the found ancestors' blocks, at or above the floor
-pub under_digests : (v : Frozen) (d : Digest) (found : List Ancestor) → AreFound v d found → AreUnderTheirDigests v (reverse found)
-under_digests v d found are = All-permutation (λ (a : Ancestor). HasBlock v a.digest.now a.block.now) found (reverse found) (IsPermutation-reverse found) (All-weaker (Contains found) (λ (a : Ancestor). HasBlock v a.digest.now a.block.now) (λ a among.
+-- the view has each found ancestor's block, at or above the floor
+pub found_there : (v : Frozen) (d : Digest) (found : List Ancestor) (a : Ancestor) → AreFound v d found → Contains found a → HasBlock v a.digest.now a.block.now
+found_there v d found a are among =
     let at : get v.blocks a.digest.now ≡ Some a.block.now = All-contains (λ (x : Ancestor). get v.blocks x.digest.now ≡ Some x.block.now) found a are.at among in
     let (path, on) = (are.exactly a.digest.now).0 (among_digests found a among) in
     let (b, there) = last_there v d path a.digest.now on in
-    (at, subst (λ (x : Block). v.floor ≤ x.round) (one_block b a.block.now there.0 at) there.1)) found (All-contains_itself found))
+    (at, subst (λ (x : Block). v.floor ≤ x.round) (one_block b a.block.now there.0 at) there.1)
+
+pub under_digests : (v : Frozen) (d : Digest) (found : List Ancestor) → AreFound v d found → AreUnderTheirDigests v (reverse found)
+under_digests v d found are = All-permutation (λ (a : Ancestor). HasBlock v a.digest.now a.block.now) found (reverse found) (IsPermutation-reverse found)
+    (All-weaker (Contains found) (λ (a : Ancestor). HasBlock v a.digest.now a.block.now) (λ a among. found_there v d found a are among) found (All-contains_itself found))
 
 -- ---- one more block of a round
 

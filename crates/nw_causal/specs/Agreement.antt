@@ -1,5 +1,5 @@
 -- The comparison of the walks of one digest in two views.
-use Rattle.std.specs.Prelude.{◌≡◌, ◌≢◌, ◌≤◌, List}
+use Rattle.std.specs.Prelude.{◌≡◌, ◌≢◌, List}
 use Rattle.nw_digest.specs.declared.digest.Digest.{Digest}
 use Rattle.nw_codec.specs.declared.block.Block.{Block}
 use Rattle.nw_model.specs.View.{Frozen, HasBlock, IsWalk}
@@ -22,13 +22,13 @@ Collide one other b c = (d : Digest) × CollideAt one other d b c
 abbrev pub MatchAt : Frozen → Frozen → Digest → Type 0
 MatchAt one other d = (b c : Block) → HasBlock one d b → HasBlock other d c → b ≡ c
 
--- the other view has c under the digest, c differs from b, and neither is below the floor
+-- the other view has c under the digest, not below the floor, and c differs from b
 abbrev pub IsRival : Frozen → Digest → Block → Block → Type 0
-IsRival other d b c = (other.floor ≤ b.round) × HasBlock other d c × (b ≢ c)
+IsRival other d b c = HasBlock other d c × (b ≢ c)
 
 -- b has no rival under the digest in the other view
 abbrev pub IsMatched : Frozen → Digest → Block → Type 0
-IsMatched other d b = other.floor ≤ b.round → (c : Block) → HasBlock other d c → b ≡ c
+IsMatched other d b = (c : Block) → HasBlock other d c → b ≡ c
 
 -- the answer is `Same` if the walks are the same list; otherwise it is `Collision` with two blocks that collide
 abbrev pub IsAgreement : Frozen → Frozen → Digest → Agreement → Type 0

@@ -1,5 +1,5 @@
 //! Compares two walks.
-ghost use Rattle.std.specs.Prelude.{◌≡◌, ◌↔◌, IfOk, IsTrue, MatchOption};
+ghost use Rattle.std.specs.Prelude.{◌≡◌, IfOk, MatchOption};
 ghost use Rattle.nw_model.specs.View.{HasBlock};
 ghost use Rattle.nw_causal.specs.Agreement.{IsAgreement, IsMatched, IsRival};
 
@@ -8,6 +8,7 @@ use crate::walks::ancestors;
 use nw_codec::Block;
 use nw_digest::{Digest, NoMemory, Round, Shared};
 use nw_generation::View;
+use nw_model::is_same_block;
 use std::alloc::Global;
 
 /// The result of comparing the walks of one digest in two views.
@@ -50,7 +51,7 @@ pub fn agree(alloc: Global, one: &View, other: &View, digest: Digest) -> Result<
     Ok(Agreement::Same)
 }
 
-/// The block under the ancestor's digest in the other view, if it differs from the ancestor's block and neither is below the floor.
+/// The block under the ancestor's digest in the other view, if it differs from the ancestor's block and is not below the floor.
 fn rival(
     other: &View,
     floor: Round,
@@ -63,16 +64,9 @@ fn rival(
 {
     if let Some(rival) = other.get(ancestor.digest) {
         let (one, other) = (ancestor.block.get(), rival.get());
-        if floor <= one.round && floor <= other.round && !is_same(one, other) {
+        if floor <= other.round && !is_same_block(one, other) {
             return Ok(Some(rival.try_clone()?));
         }
     }
     Ok(None)
-}
-
-/// Whether two blocks are equal.
-fn is_same(one: &Block, other: &Block) -> bool
-    ensures { IsTrue result ↔ one.now ≡ other.now }
-{
-    one == other
 }

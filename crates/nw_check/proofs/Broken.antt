@@ -18,7 +18,8 @@ use Rattle.nw_check.specs.declared.fault.BlockFault.{BlockFault}
 use Rattle.nw_check.specs.declared.fault.BlockFault.TheVariants as block_fault
 use Rattle.nw_check.specs.declared.fault.CertFault.{CertFault}
 use Rattle.nw_check.specs.declared.fault.CertFault.TheVariants as cert_fault
-use Rattle.nw_check.specs.Fault.{BreaksRule, IsBlockFault, BreaksCertRule, IsCertFault, IsFirstBadSeal}
+use Rattle.nw_check.specs.Seals.{IsFirstBad}
+use Rattle.nw_check.specs.Fault.{BreaksRule, IsBlockFault, BreaksCertRule, IsCertFault}
 use Rattle.nw_check.proofs.Numbers.{split_at}
 
 module _ (accepts : Meaning) (members : List Member) (b : Block) (signature : Signature) where
@@ -42,10 +43,10 @@ module _ (accepts : Meaning) (members : List Member) (c : Certificate) where
 
   -- if the votes before a place have good signatures and the vote at the place has a bad one, it is the first bad vote
   pub first_bad : (i : ℕ) (d : Seal) → i < length c.votes → All (IsSealOf accepts members c) (take i c.votes) → (IsSealOf accepts members c (get_or c.votes i d) → ⊥)
-      → IsFirstBadSeal accepts members c (get_or c.votes i d).signer
+      → IsFirstBad (IsSealOf accepts members c) c.votes (get_or c.votes i d).signer
   first_bad i d h before bad = (take i c.votes, drop (i + 1) c.votes, get_or c.votes i d, split_at c.votes i d h, refl, before, bad)
 
-  not_all_sealed : (signer : ℕ) → IsFirstBadSeal accepts members c signer → All (IsSealOf accepts members c) c.votes → ⊥
+  not_all_sealed : (signer : ℕ) → IsFirstBad (IsSealOf accepts members c) c.votes signer → All (IsSealOf accepts members c) c.votes → ⊥
   not_all_sealed signer (before, after, seal, whole, same, good, bad) all =
       let first : Contains (seal ∷ after) seal = (0, omega arith, refl) in
       bad (All-contains (IsSealOf accepts members c) (before ++ seal ∷ after) seal (subst (All (IsSealOf accepts members c)) whole all) (Contains-append_right before (seal ∷ after) seal first))

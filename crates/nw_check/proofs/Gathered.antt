@@ -7,6 +7,7 @@ use Rattle.std.proofs.lemmas.List.Elements.{All-map, All-append, All-cons, All-t
 use Rattle.std.proofs.lemmas.Option.{slice_get_within}
 use Rattle.nw_codec.specs.Fits.{signers}
 use Rattle.nw_codec.specs.Grammar.{seal}
+use Rattle.nw_codec.specs.Subject.{certificate_subject, vote_subject}
 use Rattle.nw_codec.specs.declared.certificate.Seal.{Seal}
 use Rattle.nw_codec.specs.declared.vote.Vote.{Vote}
 use Rattle.nw_committee.specs.Committee.{ReachesQuorum}
@@ -29,7 +30,7 @@ module _ (accepts : Meaning) (g : Gathering) (ok : IsGathering accepts g) where
       (All-weaker (IsSealOf accepts g.committee (certificate_of g)) (λ s. IsMember g.committee s.signer) (λ s own. slice_get_within g.committee s.signer own.1 own.2) g.seals ok.sealed)
 
   -- there are at most as many votes as members, so at most 100
-  pub gathering-few : length g.seals ≤ 100
+  gathering-few : length g.seals ≤ 100
   gathering-few =
       let few = few_below (signers g.seals) (length g.committee) ok.in_order signer_numbers in
       let len = length-map g.seals (λ (s : Seal). s.signer) in
@@ -71,7 +72,7 @@ counted-gathering accepts g v p ok may place =
     let digest : v.digest ≡ g.digest = may.0.0.0 in
     let round : v.round ≡ g.round = may.0.0.1 in
     let author : v.author ≡ g.author = may.0.0.2 in
-    let text : text_of_vote v.digest v.round v.author ≡ text_of_vote g.digest g.round g.author = cc in
+    let text : text_of_vote (vote_subject v) ≡ text_of_vote (certificate_subject (certificate_of g)) = ap text_of_vote (λ i. record { digest = digest i; round = round i; author = author i }) in
     gathering-insert accepts g ok p (seal v) place (subst (λ t. IsSignedBy accepts g.committee v.signer t v.signature) text may.2)
 
 -- if the seal of a vote was inserted at a place, the vote was counted

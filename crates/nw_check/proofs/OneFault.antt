@@ -16,7 +16,8 @@ use Rattle.nw_check.specs.declared.fault.CertFault.{CertFault}
 use Rattle.nw_check.specs.declared.fault.CertFault.TheVariants as cert_fault
 use Rattle.nw_check.specs.declared.fault.GatherFault.{GatherFault}
 use Rattle.nw_check.specs.declared.fault.GatherFault.TheVariants as gather_fault
-use Rattle.nw_check.specs.Fault.{IsBlockFault, IsCertFault, IsFirstBadSeal}
+use Rattle.nw_check.specs.Seals.{IsFirstBad}
+use Rattle.nw_check.specs.Fault.{IsBlockFault, IsCertFault}
 use Rattle.nw_check.specs.Gathering.{Gathering, IsGatherFault}
 use Rattle.nw_check.specs.Laws.{BlocksHaveOneFault, CertificatesHaveOneFault, VotesHaveOneFault}
 use Rattle.nw_check.proofs.Broken.{valid-keeps_rules}
@@ -76,7 +77,7 @@ same_bad P (x ∷ b1) (y ∷ b2) a1 a2 s1 s2 e good1 good2 bad1 bad2 =
     same_bad P b1 b2 a1 a2 s1 s2 rest (All-tail P x b1 good1) (All-tail P y b2 good2) bad1 bad2
 
 module _ (accepts : Meaning) (members : List Member) (c : Certificate) where
-  same_signer : (n m : ℕ) → IsFirstBadSeal accepts members c n → IsFirstBadSeal accepts members c m → n ≡ m
+  same_signer : (n m : ℕ) → IsFirstBad (IsSealOf accepts members c) c.votes n → IsFirstBad (IsSealOf accepts members c) c.votes m → n ≡ m
   same_signer n m (b1, a1, s1, whole1, is1, good1, bad1) (b2, a2, s2, whole2, is2, good2, bad2) =
       let same = same_bad (IsSealOf accepts members c) b1 b2 a1 a2 s1 s2 (sym whole1 ∙ whole2) good1 good2 bad1 bad2 in
       sym is1 ∙ ap (λ (s : Seal). s.signer) same ∙ is2

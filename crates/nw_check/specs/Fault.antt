@@ -1,14 +1,14 @@
 -- The first rule that a block or a certificate breaks.
-use Rattle.std.specs.Prelude.{◌≡◌, ◌≢◌, ℕ, ◌<◌, List, [], ◌∷◌, ◌++◌, All}
+use Rattle.std.specs.Prelude.{◌≡◌, ◌≢◌, ◌<◌, List, [], All}
 use Rattle.nw_codec.specs.Fits.{authors, signers}
 use Rattle.nw_codec.specs.declared.block.Block.{Block}
 use Rattle.nw_codec.specs.declared.certificate.Signature.{Signature}
-use Rattle.nw_codec.specs.declared.certificate.Seal.{Seal}
 use Rattle.nw_codec.specs.declared.certificate.Certificate.{Certificate}
 use Rattle.nw_committee.specs.Committee.{ReachesQuorum}
 use Rattle.nw_committee.specs.declared.member.Member.{Member}
 use Rattle.nw_sig.specs.Signed.{Meaning, text_of_block}
 use Rattle.nw_model.specs.Checks.{digest_of, IsMember, IsSignedBy, IsWellFormedWith, IsSealOf, IsValid}
+use Rattle.nw_check.specs.Seals.{IsFirstBad}
 use Rattle.nw_check.specs.declared.fault.BlockFault.{BlockFault}
 use Rattle.nw_check.specs.declared.fault.BlockFault.TheVariants as block_fault
 use Rattle.nw_check.specs.declared.fault.CertFault.{CertFault}
@@ -36,12 +36,6 @@ abbrev pub IsBlockFault : Meaning → List Member → Block → Signature → Bl
 IsBlockFault accepts members b signature block_fault.NoMemory = IsWellFormedWith accepts members b signature
 IsBlockFault accepts members b signature fault = BreaksRule accepts members b signature fault
 
--- the certificate has a vote of this signer with a bad signature, and all votes before it have good ones
-abbrev pub IsFirstBadSeal : Meaning → List Member → Certificate → ℕ → Type 0
-IsFirstBadSeal accepts members c signer =
-    (before after : List Seal) × (seal : Seal) × (c.votes ≡ before ++ seal ∷ after) × (seal.signer ≡ signer)
-    × All (IsSealOf accepts members c) before × (IsSealOf accepts members c seal → ⊥)
-
 -- the author and the signers are members
 abbrev pub HasSigners : List Member → Certificate → Type 0
 HasSigners members c = IsMember members c.author × All (IsMember members) (signers c.votes)
@@ -51,7 +45,7 @@ abbrev pub BreaksCertRule : Meaning → List Member → Certificate → CertFaul
 BreaksCertRule accepts members c cert_fault.Author = IsMember members c.author → ⊥
 BreaksCertRule accepts members c cert_fault.Signer = IsMember members c.author × (All (IsMember members) (signers c.votes) → ⊥)
 BreaksCertRule accepts members c cert_fault.FewVotes = HasSigners members c × (ReachesQuorum members (signers c.votes) → ⊥)
-BreaksCertRule accepts members c (cert_fault.Signature signer) = HasSigners members c × ReachesQuorum members (signers c.votes) × IsFirstBadSeal accepts members c signer
+BreaksCertRule accepts members c (cert_fault.Signature signer) = HasSigners members c × ReachesQuorum members (signers c.votes) × IsFirstBad (IsSealOf accepts members c) c.votes signer
 BreaksCertRule accepts members c cert_fault.NoMemory = ⊥
 
 -- the check of the certificate may fail with this fault: that of the first rule that it breaks, or `NoMemory` if it is valid

@@ -4,13 +4,15 @@ use Rattle.std.specs.List.Sorted.{IsStrictlyIncreasing}
 use Rattle.nw_digest.specs.declared.digest.Digest.{Digest}
 use Rattle.nw_codec.specs.Fits.{signers}
 use Rattle.nw_codec.specs.Grammar.{seal}
+use Rattle.nw_codec.specs.Subject.{vote_subject}
 use Rattle.nw_codec.specs.declared.certificate.Seal.{Seal}
 use Rattle.nw_codec.specs.declared.certificate.Certificate.{Certificate}
 use Rattle.nw_codec.specs.declared.vote.Vote.{Vote}
 use Rattle.nw_committee.specs.Committee.{IsCommittee, ReachesQuorum}
 use Rattle.nw_committee.specs.declared.member.Member.{Member}
 use Rattle.nw_sig.specs.Signed.{Meaning, text_of_vote}
-use Rattle.nw_model.specs.Checks.{IsMember, IsSignedBy, IsSealOf}
+use Rattle.nw_model.specs.Checks.{IsMember, IsSealOf}
+use Rattle.nw_check.specs.Seals.{IsSealFor}
 use Rattle.nw_check.specs.declared.fault.GatherFault.{GatherFault}
 use Rattle.nw_check.specs.declared.fault.GatherFault.TheVariants as fault
 use Rattle.nw_check.specs.declared.fault.Counted.{Counted}
@@ -54,7 +56,7 @@ IsNew g v = IsVoteForBlock g v × (Contains (signers g.seals) v.signer → ⊥)
 
 -- the vote has its signer's signature
 abbrev pub IsVoteOf : Meaning → List Member → Vote → Type 0
-IsVoteOf accepts members v = IsSignedBy accepts members v.signer (text_of_vote v.digest v.round v.author) v.signature
+IsVoteOf accepts members v = IsSealFor accepts members (text_of_vote (vote_subject v)) (seal v)
 
 -- the vote is new, and a member signed it
 abbrev pub CanCount : Meaning → Gathering → Vote → Type 0

@@ -1,4 +1,5 @@
 pub mod Checked
+pub mod Seals
 pub mod Fault
 pub mod Gathering
 pub mod Message

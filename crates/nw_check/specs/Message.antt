@@ -21,7 +21,7 @@ use Rattle.nw_check.specs.declared.message.Checked.TheVariants as checked
 -- `BadBlock`, `BadCert`: the text spells a block or a certificate, and this is the first rule that it breaks.
 abbrev pub IsChecked : {S : Type 0} → Meaning → List Member → List ℕ → Checked S → Type 0
 IsChecked accepts members text (checked.Block c) =
-    (signature : Signature) × Spells text (messages.Block c.block signature) × IsWellFormedWith accepts members c.block signature × (c.committee ≡ members)
+    Spells text (messages.Block c.block c.signature) × IsWellFormedWith accepts members c.block c.signature × (c.committee ≡ members)
 IsChecked accepts members text (checked.Cert c) = Spells text (messages.Certificate c.certificate) × IsValid accepts members c.certificate × (c.committee ≡ members)
 IsChecked accepts members text (checked.Vote v) = Spells text (messages.Vote v)
 IsChecked accepts members text (checked.BadText e) = IsFirstFault text e × (e ≢ decode_error.NoMemory)

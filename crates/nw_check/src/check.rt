@@ -7,7 +7,7 @@ ghost use Rattle.nw_model.specs.Checks.{IsWellFormedWith, IsValid};
 ghost use Rattle.nw_check.specs.Fault.{HasParents, IsBlockFault, BreaksRule};
 ghost use Rattle.nw_check.specs.Fault.{IsCertFault, BreaksCertRule};
 
-use crate::members::{are_members, is_member, reach_quorum};
+use crate::members::{are_members, is_member};
 use crate::{BlockFault, CertFault, CheckedBlock, CheckedCert, Verifier};
 use nw_codec::{Block, Certificate, Signature, block_digest};
 use nw_committee::Committee;
@@ -15,7 +15,7 @@ use nw_digest::{Digest, Shared};
 use nw_sig::{Scheme, text_of_block};
 use std::alloc::Global;
 
-/// Checks the block and its author's signature. Returns the block with its digest and the committee. It hashes the body only
+/// Checks the block and its author's signature. Returns the block with its digest, its signature and the committee. It hashes the body only
 /// after rules 1 to 4 passed, so refusing the block of a stranger costs no hash.
 ///
 /// On error the block is dropped. The error is the first of these that applies:
@@ -33,8 +33,11 @@ pub fn check_block<S: Scheme>(
     signature: Signature,
 ) -> Result<CheckedBlock<S>, BlockFault>
     requires { Fits block }
-    ensures checked { IfOk result
-        (λ checked. checked ≡ record { block = block; committee = committee.now }) }
+    ensures checked { IfOk result (λ checked. checked ≡ record {
+      block = block;
+      signature = signature;
+      committee = committee.now;
+    }) }
     ensures well_formed { OnOk result (IsWellFormedWith S.accepts committee.now block signature) }
     ensures fault { IfErr result (IsBlockFault S.accepts committee.now block signature) }
 {
@@ -51,8 +54,11 @@ pub fn check_block_by<S: Scheme, V: Verifier<S>>(
 ) -> Result<CheckedBlock<S>, BlockFault>
     requires fits { Fits block }
     requires members { V.members verifier.now ≡ committee.now }
-    ensures checked { IfOk result
-        (λ checked. checked ≡ record { block = block; committee = committee.now }) }
+    ensures checked { IfOk result (λ checked. checked ≡ record {
+      block = block;
+      signature = signature;
+      committee = committee.now;
+    }) }
     ensures well_formed { OnOk result (IsWellFormedWith S.accepts committee.now block signature) }
     ensures fault { IfErr result (IsBlockFault S.accepts committee.now block signature) }
 {
@@ -64,7 +70,8 @@ pub fn check_block_by<S: Scheme, V: Verifier<S>>(
     if !verifier.is_signed_by(block.author, &text, &signature) {
         return Err(BlockFault::Signature);
     }
-    Ok(CheckedBlock::new(Shared::new(alloc, block)?, digest, committee.try_clone()?))
+    let block = Shared::new(alloc, block)?;
+    Ok(CheckedBlock::new(block, digest, signature, committee.try_clone()?))
 }
 
 /// The first of rules 1 to 4 that the block breaks, or `None` if it breaks none of them. These rules need no digest.
@@ -81,7 +88,7 @@ fn committee_fault(committee: &Committee, block: &Block) -> Option<BlockFault>
         Some(BlockFault::ParentAuthor)
     } else if block.round.get() == 0 && !parents.is_empty() {
         Some(BlockFault::GenesisParents)
-    } else if block.round.get() > 0 && !reach_quorum(committee, parents) {
+    } else if block.round.get() > 0 && !committee.reaches_quorum(parents) {
         Some(BlockFault::FewParents)
     } else {
         None
@@ -159,7 +166,7 @@ fn cert_fault<S: Scheme, V: Verifier<S>>(
         Some(CertFault::Author)
     } else if !are_members(committee, votes) {
         Some(CertFault::Signer)
-    } else if !reach_quorum(committee, votes) {
+    } else if !committee.reaches_quorum(votes) {
         Some(CertFault::FewVotes)
     } else {
         match verifier.first_bad_signer(certificate) {

@@ -1,32 +1,38 @@
 //! Checked blocks and certificates.
 ghost use Rattle.std.specs.Prelude.{◌≡◌};
-ghost use Rattle.nw_model.specs.Checks.{digest_of, IsWellFormed, IsValid};
+ghost use Rattle.nw_model.specs.Checks.{digest_of, IsWellFormed, IsWellFormedWith, IsValid};
 
-use nw_codec::{Block, Certificate};
+use nw_codec::{Block, Certificate, Signature};
 use nw_committee::Committee;
 use nw_digest::{Digest, Shared};
 use nw_sig::Scheme;
 use std::marker::{Model, PhantomData};
 
-/// A block that is well formed under its committee and the scheme `S`. Contracts see the block and the committee.
+/// A block that is well formed with its author's signature, under its committee and the scheme `S`. Contracts see the block, the signature and
+/// the committee.
 #[derive(Drop)]
 pub struct CheckedBlock<S: Scheme> {
     block: Shared<Block>,
     digest: Digest,
+    signature: Signature,
     committee: Shared<Committee>,
     scheme: PhantomData<S>,
 }
 
 impl<S: Scheme> Model for CheckedBlock<S> {
     ghost use Rattle.std.specs.Prelude.{◌≡◌};
-    ghost use Rattle.nw_model.specs.Checks.{digest_of, IsWellFormed};
+    ghost use Rattle.nw_model.specs.Checks.{digest_of, IsWellFormedWith};
     ghost use Rattle.nw_check.specs.Checked.{CheckedBlockView};
 
     ghost Value = { CheckedBlockView };
 
-    ghost view = { λ c. record { block = c.block; committee = c.committee } };
+    ghost view = { λ c. record {
+      block = c.block;
+      signature = c.signature;
+      committee = c.committee;
+    } };
 
-    ghost invariant = { λ c. IsWellFormed S.accepts c.committee c.block
+    ghost invariant = { λ c. IsWellFormedWith S.accepts c.committee c.block c.signature
         × (c.digest ≡ digest_of c.block) };
 }
 
@@ -35,15 +41,21 @@ impl<S: Scheme> CheckedBlock<S> {
     pub(crate) fn new(
         block: Shared<Block>,
         digest: Digest,
+        signature: Signature,
         committee: Shared<Committee>,
     ) -> CheckedBlock<S>
-        requires well_formed { IsWellFormed S.accepts committee block }
+        requires well_formed { IsWellFormedWith S.accepts committee block signature }
         requires digest { digest ≡ digest_of block }
-        ensures { result ≡ record { block = block; committee = committee } }
+        ensures { result ≡ record {
+          block = block;
+          signature = signature;
+          committee = committee;
+        } }
     {
         CheckedBlock {
             block,
             digest,
+            signature,
             committee,
             scheme: PhantomData,
         }
@@ -63,6 +75,14 @@ impl<S: Scheme> CheckedBlock<S> {
         ensures well_formed { IsWellFormed S.accepts self.now.committee self.now.block }
     {
         self.digest
+    }
+
+    /// Its author's signature of the digest.
+    pub fn signature(&self) -> Signature
+        ensures signature { result ≡ self.now.signature }
+        ensures well_formed { IsWellFormedWith S.accepts self.now.committee self.now.block result }
+    {
+        self.signature
     }
 
     /// The committee under which the block is well formed.

@@ -9,7 +9,7 @@ ghost use Rattle.nw_model.specs.Checks.{IsMember};
 ghost use Rattle.nw_check.specs.Gathering.{IsGathering, CanCount, IsGatherFault, IsVoteForBlock, IsPlace};
 ghost use Rattle.nw_check.specs.Gathering.{CountsVote, IsCount, certificate_of};
 
-use crate::members::{is_member, reach_quorum};
+use crate::members::is_member;
 use crate::{CheckedCert, Counted, FinishFault, GatherFault, StartFault, Verifier};
 use nw_codec::{Certificate, Seal, Vote};
 use nw_committee::Committee;
@@ -144,7 +144,7 @@ impl<S: Scheme> Gather<S> {
         if !is_member(committee, vote.signer) {
             return Err(GatherFault::Signer);
         }
-        let text = text_of_vote(&vote.digest, vote.round, vote.author);
+        let text = text_of_vote(&vote.subject());
         if !verifier.is_signed_by(vote.signer, &text, &vote.signature) {
             return Err(GatherFault::Signature);
         }
@@ -166,7 +166,7 @@ impl<S: Scheme> Gather<S> {
             signature: vote.signature,
         };
         insert_seal(&mut self.seals, place, seal)?;
-        if reach_quorum(self.committee.get(), &self.seals) {
+        if self.committee.get().reaches_quorum(&self.seals) {
             Ok(Counted::Quorum)
         } else {
             Ok(Counted::Counted)
@@ -192,7 +192,7 @@ impl<S: Scheme> Gather<S> {
         ensures no_memory { IsErrOf result FinishFault.NoMemory
             → ReachesQuorum self.now.committee (signers self.now.seals) }
     {
-        if !reach_quorum(self.committee.get(), &self.seals) {
+        if !self.committee.get().reaches_quorum(&self.seals) {
             return Err(FinishFault::FewVotes);
         }
         let votes = Sequence::new(Vec::from_slice(alloc, &self.seals)?);

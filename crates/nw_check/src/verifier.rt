@@ -3,7 +3,7 @@ ghost use Rattle.std.specs.Prelude.{◌↔◌, List, IsTrue, MatchOption, All};
 ghost use Rattle.nw_codec.specs.Typed.{AreBytes, IsSignature};
 ghost use Rattle.nw_committee.specs.declared.member.Member.{Member};
 ghost use Rattle.nw_model.specs.Checks.{IsSignedBy, IsSealOf};
-ghost use Rattle.nw_check.specs.Fault.{IsFirstBadSeal};
+ghost use Rattle.nw_check.specs.Seals.{IsFirstBad};
 
 use nw_codec::{Certificate, Signature};
 use nw_committee::Committee;
@@ -24,9 +24,9 @@ pub trait Verifier<S: Scheme> {
     fn first_bad_signer(&self, certificate: &Certificate) -> Option<u16>
         ensures { MatchOption result
             (All (IsSealOf S.accepts (members self.now) certificate.now) certificate.now.votes)
-            (IsFirstBadSeal S.accepts (members self.now) certificate.now) }
+            (IsFirstBad (IsSealOf S.accepts (members self.now) certificate.now) certificate.now.votes) }
     {
-        let text = text_of_vote(&certificate.digest, certificate.round, certificate.author);
+        let text = text_of_vote(&certificate.subject());
         for seal in certificate.votes.as_slice() {
             if !self.is_signed_by(seal.signer, &text, &seal.signature) {
                 return Some(seal.signer);

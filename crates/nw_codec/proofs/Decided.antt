@@ -7,7 +7,7 @@ use Rattle.std.proofs.lemmas.List.{length-drop}
 use Rattle.nw_codec.specs.declared.error.DecodeError.{DecodeError}
 use Rattle.nw_codec.specs.declared.error.DecodeError.TheVariants.{Short, Trailing, Tag, Version, TooManyParents, ParentOrder, TooManyTransactions, TransactionTooLong, BodyTooLong, TooManyVotes, VoteOrder, NoMemory}
 use Rattle.nw_codec.specs.Faults.{Stage, AtTag, AtVersion, AtAuthor, AtRound, AtParentCount, AtParentAuthor, AtParentDigest, AtTransactionCount, AtTransactionLength, AtTransaction, AtSignature, OfCertificate, OfVote, AtDigest, AtSubjectRound, AtSubjectAuthor, AtVoteCount, AtSigner, AtSealSignature, AtEnd, width, after_field, at_parents, at_transactions, at_seals, number16, number32, comes_after, Reaches, StopsAt, FaultFrom}
-use Rattle.nw_codec.proofs.Fronts.{here, onward, passed, short, failed, trailing, later}
+use Rattle.nw_codec.proofs.Fronts.{going, going_is, failing_is, here, onward, passed, short, failed, trailing, later}
 
 -- ---- no test has the fault Short, Trailing or NoMemory
 
@@ -30,12 +30,6 @@ trailing_is_no_test = record { tag = λ e. cc; version = λ e. cc; parents = λ 
 
 abbrev Says : Result Stage DecodeError → DecodeError → Type 0
 Says r e = r ≡ Err e
-
-abbrev failing : DecodeError → Result Stage DecodeError
-failing e = Err e
-
-failing_is : (d e : DecodeError) → failing d ≡ failing e → d ≡ e
-failing_is d e h = cc
 
 never_choice : (b : Bool) (d x : DecodeError) (s : Stage) → d ≢ x → Says (cond b (Err d) (Ok s)) x → ⊥
 never_choice true d x s other e = other (failing_is d x e)
@@ -145,12 +139,6 @@ light : (n size : ℕ) → weight (at_transactions n size) ≡ 0
 unfolding weight
 light zero size = refl
 light (suc n) size = refl
-
-abbrev going : Stage → Result Stage DecodeError
-going s = Ok s
-
-going_is : (s t : Stage) → going s ≡ going t → s ≡ t
-going_is s t e = cc
 
 abbrev wide : ℕ → Option ℕ
 wide w = Some w

@@ -10,14 +10,31 @@ use Rattle.nw_codec.specs.declared.error.DecodeError.TheVariants.{Short, Trailin
 use Rattle.nw_codec.specs.Faults.{Stage, AtEnd, width, after_field, Leads, Reaches, StopsAt, FaultFrom}
 use Rattle.nw_codec.proofs.Pieces.{same_start}
 
-abbrev joined : List (List ℕ) → List ℕ
+-- ---- equal options and results
+
+pub some_is : (m n : ℕ) → Some m ≡ Some n → m ≡ n
+some_is m n e = cc
+
+abbrev pub going : Stage → Result Stage DecodeError
+going s = Ok s
+
+pub going_is : (s t : Stage) → going s ≡ going t → s ≡ t
+going_is s t e = cc
+
+abbrev pub failing : DecodeError → Result Stage DecodeError
+failing e = Err e
+
+pub failing_is : (d e : DecodeError) → failing d ≡ failing e → d ≡ e
+failing_is d e h = cc
+
+-- ---- rows of fields
+
+abbrev pub joined : List (List ℕ) → List ℕ
 joined fields = flat_map (λ field. field) fields
 
 joined-append : (fs gs : List (List ℕ)) → joined (fs ++ gs) ≡ joined fs ++ joined gs
 joined-append [] gs = refl
 joined-append (f ∷ fs) gs = ap (λ (x : List ℕ). f ++ x) (joined-append fs gs) ∙ sym (append_assoc f (joined fs) (joined gs))
-
--- ---- rows of fields
 
 Leads-append : (fs gs : List (List ℕ)) (a b c : Stage) → Leads a fs b → Leads b gs c → Leads a (fs ++ gs) c
 Leads-append [] gs a b c p q = subst (λ (s : Stage). Leads s gs c) (sym p) q
@@ -89,15 +106,6 @@ stuck_at_fault stage rest e stops field more next wide cut passes =
     let both : after_field stage field ≡ Err e = rw same at fails in
     absurd (cc (both, passes))
 
-some_is : (m n : ℕ) → Some m ≡ Some n → m ≡ n
-some_is m n e = cc
-
-abbrev going : Stage → Result Stage DecodeError
-going s = Ok s
-
-going_is : (s t : Stage) → going s ≡ going t → s ≡ t
-going_is s t e = cc
-
 one_stop : (fs gs : List (List ℕ)) (a b c : Stage) (x y : List ℕ) → Leads a fs b → Leads a gs c → joined fs ++ x ≡ joined gs ++ y → IsStuck b x → IsStuck c y → (b ≡ c) × (x ≡ y)
 one_stop [] [] a b c x y p q e left right = (sym p ∙ q, e)
 one_stop [] (g ∷ gs) a b c x y p q e left right =
@@ -116,12 +124,6 @@ one_stop (f ∷ fs) (g ∷ gs) a b c x y p q e left right =
 -- two rows of fields that lead to the end are the same
 pub one_end : (a : Stage) (s x y : List ℕ) → Reaches a s AtEnd x → Reaches a s AtEnd y → x ≡ y
 one_end a s x y p q = (one_stop p.fields q.fields a AtEnd AtEnd x y p.leads q.leads (sym p.whole ∙ q.whole) (stuck_at_end x) (stuck_at_end y)).1
-
-abbrev failing : DecodeError → Result Stage DecodeError
-failing e = Err e
-
-failing_is : (d e : DecodeError) → failing d ≡ failing e → d ≡ e
-failing_is d e h = cc
 
 stops_once : (o : Option ℕ) (stage : Stage) (rest : List ℕ) (d e : DecodeError) → width stage ≡ o → StopsAt stage rest d → StopsAt stage rest e → d ≡ e
 stops_once None stage rest d e wide p q =

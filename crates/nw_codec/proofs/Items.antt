@@ -12,9 +12,9 @@ use Rattle.nw_codec.specs.Faults.{Stage, AtParentDigest, AtSealSignature, AtEnd,
 use Rattle.nw_codec.specs.Parts.{AreItems}
 use Rattle.nw_codec.proofs.Pieces.{same_start, same16, again16, back16, below16}
 use Rattle.nw_codec.proofs.Ascending.{IsAfter, Ascends, after_from_test}
-use Rattle.nw_codec.proofs.Fronts.{here, onward, one_field}
+use Rattle.nw_codec.proofs.Fronts.{going_is, here, onward, one_field}
 use Rattle.nw_codec.proofs.Passing.{order_passes}
-use Rattle.nw_codec.proofs.Steps.{step, to, bytes_of, own_front, going_is, else_choice, one_more}
+use Rattle.nw_codec.proofs.Steps.{step, to, bytes_of, own_front, else_choice, one_more}
 
 -- ---- items
 

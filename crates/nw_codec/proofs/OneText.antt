@@ -15,7 +15,7 @@ use Rattle.nw_codec.specs.Packed.{transaction_bytes}
 use Rattle.nw_codec.specs.Fits.{Fits, MessageFits}
 use Rattle.nw_codec.specs.Typed.{IsRef, IsBlock, IsSignature, IsMessage}
 use Rattle.nw_codec.specs.Spelled.{Spells}
-use Rattle.nw_codec.proofs.Pieces.{same_start, same16, same32, same48}
+use Rattle.nw_codec.proofs.Pieces.{first_is, same_start, same16, same32, same48}
 use Rattle.nw_codec.proofs.Items.{parent_kind, same_items}
 use Rattle.nw_codec.proofs.WrittenBlock.{block_message_is}
 use Rattle.nw_codec.proofs.WrittenVotes.{certificate_message_is, vote_message_is}
@@ -109,9 +109,6 @@ certificate_begins c x = record { others = _; whole = certificate_message_is c x
 
 vote_begins : (v : Vote) (x : List ℕ) → Begins (messages.Vote v) x 3
 vote_begins v x = record { others = _; whole = vote_message_is v x }
-
-first_is : (a b : ℕ) (x y : List ℕ) → a ∷ x ≡ b ∷ y → a ≡ b
-first_is a b x y e = cc
 
 one_tag : (m n : Message) (x y : List ℕ) (a b : ℕ) → Begins m x a → Begins n y b → message m ++ x ≡ message n ++ y → a ≡ b
 one_tag m n x y a b p q e = first_is a b p.others q.others (sym p.whole ∙ e ∙ q.whole)

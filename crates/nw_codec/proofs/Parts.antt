@@ -1,36 +1,42 @@
 -- The parts that the readers find are those of the message that the text spells.
-use Rattle.std.proofs.Common.{◌≡◌, ℕ, ◌+◌, ◌*◌, ◌≤◌, List, [], ◌∷◌, ◌++◌, length, All, take, drop, Some, None, refl, sym, ap, subst, ◌∙◌, append_assoc, arith}
+use Rattle.std.proofs.Common.{◌≡◌, ℕ, ◌+◌, ◌*◌, ◌<◌, ◌≤◌, ◌⊎◌, inl, inr, List, [], ◌∷◌, ◌++◌, length, All, take, drop, Some, None, refl, sym, ap, subst, ◌∙◌, append_assoc, arith}
 use Rattle.std.specs.Int.{w16, to_be_bytes}
 use Rattle.std.specs.List.{flat_map, AllByRecursion}
-use Rattle.std.proofs.lemmas.List.{append-nil, length-append, length-take, take-append-drop}
+use Rattle.std.proofs.lemmas.List.{append-nil, drop-drop, length-append, length-drop, length-take, nil_from_length, take-append-drop}
 use Rattle.std.proofs.lemmas.List.Elements.{recursion_from_All}
-use Rattle.nw_digest.specs.declared.digest.Digest.{Digest}
 use Rattle.nw_codec.specs.declared.block.Ref.{Ref}
 use Rattle.nw_codec.specs.declared.block.Block.{Block}
 use Rattle.nw_codec.specs.declared.certificate.Signature.{Signature}
 use Rattle.nw_codec.specs.declared.certificate.Seal.{Seal}
 use Rattle.nw_codec.specs.declared.certificate.Certificate.{Certificate}
+use Rattle.nw_codec.specs.declared.subject.Subject.{Subject}
 use Rattle.nw_codec.specs.declared.vote.Vote.{Vote}
 use Rattle.nw_codec.specs.declared.message.Message.TheVariants as messages
-use Rattle.nw_codec.specs.declared.error.DecodeError.TheVariants.{TooManyParents, TooManyTransactions, TooManyVotes}
+use Rattle.nw_codec.specs.declared.error.DecodeError.{DecodeError}
+use Rattle.nw_codec.specs.declared.error.DecodeError.TheVariants.{Short, TooManyParents, TooManyTransactions, TooManyVotes}
 use Rattle.nw_codec.specs.Grammar.{round_bytes, parent_bytes, subject_bytes, seal_bytes, seal, message}
 use Rattle.nw_codec.specs.Packed.{ArePacked, transaction_bytes}
-use Rattle.nw_codec.specs.Typed.{AreBytes, IsRef, IsBlock, IsSeal, IsCertificate}
+use Rattle.nw_codec.specs.Subject.{certificate_subject, vote_subject}
+use Rattle.nw_codec.specs.Typed.{AreBytes, IsRef, IsBlock, IsSeal, IsSubject, IsCertificate}
 use Rattle.nw_codec.specs.Spelled.{Spells}
-use Rattle.nw_codec.specs.Faults.{Kind, Stage, AtDigest, stage_after_subject, AtSignature, AtVersion, AtAuthor, AtRound, AtParentCount, AtTransactionCount, AtVoteCount, AtSealSignature, AtEnd, at_parents, at_transactions, at_seals, Reaches}
-use Rattle.nw_codec.specs.Parts.{ReadsCount, NumberAt, RoundAt, HeadAt, ItemsAt, ParentsAt, TransactionsAt, SubjectAt, LastSignature, IsLast, AreBlockParts, AreCertificateParts}
+use Rattle.nw_codec.specs.Faults.{Kind, Stage, AtDigest, AtSubjectRound, AtSubjectAuthor, FaultFrom, stage_after_subject, AtSignature, AtVersion, AtAuthor, AtRound, AtParentCount, AtTransactionCount, AtVoteCount, AtSealSignature, AtEnd, at_parents, at_transactions, at_seals, Reaches}
+use Rattle.nw_codec.specs.Parts.{ReadsCount, NumberAt, RoundAt, HeadAt, ItemsAt, ParentsAt, TransactionsAt, LastSignature, IsLast, AreBlockParts, AreCertificateParts}
 use Rattle.nw_codec.proofs.Pieces.{same_start, same16, same48}
 use Rattle.nw_codec.proofs.Packed.{are_packed}
 use Rattle.nw_codec.proofs.Steps.{bytes_of}
-use Rattle.nw_codec.proofs.Sizes.{length-parents}
-use Rattle.nw_codec.proofs.Fronts.{onward, one_field}
+use Rattle.nw_codec.proofs.Sizes.{length-parents, length-seals, length-subject}
+use Rattle.nw_codec.proofs.Fields.{number_len, round_leaves, short_as}
+use Rattle.nw_codec.proofs.Fronts.{onward, one_field, passed, later}
 use Rattle.nw_codec.proofs.WrittenBlock.{block_message_is}
-use Rattle.nw_codec.proofs.WrittenVotes.{subject_laid_out, written_subject, certificate_message_is, vote_message_is}
+use Rattle.nw_codec.proofs.WrittenVotes.{subject_laid_out, certificate_message_is, vote_message_is}
 use Rattle.nw_codec.proofs.OneText.{counted, counts_fit}
-use Rattle.nw_codec.proofs.OneVote.{same_signature, same_subject}
+use Rattle.nw_codec.proofs.OneVote.{same_signature}
 use Rattle.nw_codec.proofs.Items.{parent_kind, seal_kind, same_items}
 use Rattle.nw_codec.proofs.WholeBlock.{BlockRead}
 use Rattle.nw_codec.proofs.WholeVotes.{CertificateRead}
+
+fewer : (n m : ℕ) → (m < n) ⊎ (n ≤ m)
+fewer n m = grind arith
 
 -- ---- parts that were read pass their tests
 
@@ -47,9 +53,33 @@ pub signature_leads : (stage : Stage) (text : List ℕ) (s : Signature) → IsLa
 signature_leads stage text s last at =
     subst (λ (t : List ℕ). Reaches stage t AtEnd []) (sym at.bytes) (one_field stage AtEnd s.0 [] (last.wide ∙ ap Some (sym at.signed.len)) (last.passes s.0))
 
-pub subject_leads : (kind : Kind) (text rest : List ℕ) (digest : Digest) (round author : ℕ) → SubjectAt text digest round author rest → Reaches (AtDigest kind) text (stage_after_subject kind) rest
-subject_leads kind text rest digest round author at =
-    subst (λ (t : List ℕ). Reaches (AtDigest kind) t (stage_after_subject kind) rest) (sym at.bytes) (written_subject kind digest round author rest at.typed)
+pub subject_leads : (kind : Kind) (text rest : List ℕ) → 40 ≤ length text → rest ≡ drop 40 text → Reaches (AtDigest kind) text (stage_after_subject kind) rest
+subject_leads kind text rest long back =
+    let numbers : List ℕ = drop 32 text in
+    let author : List ℕ = drop 6 numbers in
+    let after_digest = passed (AtDigest kind) (AtSubjectRound kind) 32 text refl (omega (arith, long)) refl in
+    let after_round = passed (AtSubjectRound kind) (AtSubjectAuthor kind) 6 numbers refl (omega (arith, long, length-drop 32 text)) refl in
+    let after_author = passed (AtSubjectAuthor kind) (stage_after_subject kind) 2 author refl (omega (arith, long, length-drop 32 text, length-drop 6 numbers)) refl in
+    let all = onward (AtDigest kind) (AtSubjectRound kind) (stage_after_subject kind) _ _ _ after_digest (onward (AtSubjectRound kind) (AtSubjectAuthor kind) (stage_after_subject kind) _ _ _ after_round after_author) in
+    let same : drop 2 author ≡ drop 40 text = drop-drop 2 6 numbers ∙ drop-drop 8 32 text in
+    subst (λ (t : List ℕ). Reaches (AtDigest kind) text (stage_after_subject kind) t) (same ∙ sym back) all
+
+short_numbers : (kind : Kind) (numbers : List ℕ) (e : DecodeError) → length numbers < 8 → e ≡ Short → FaultFrom (AtSubjectRound kind) numbers e
+short_numbers kind numbers e few is =
+    let author : List ℕ = drop 6 numbers in
+    elim (fewer 6 (length numbers)) [
+      | inl lt ↦ short_as (AtSubjectRound kind) 6 numbers e refl lt is
+      | inr le ↦ later (AtSubjectRound kind) (AtSubjectAuthor kind) numbers author e (passed (AtSubjectRound kind) (AtSubjectAuthor kind) 6 numbers refl le refl) (short_as (AtSubjectAuthor kind) 2 author e refl (omega (arith, few, length-drop 6 numbers)) is)
+    ]
+
+-- a text that is too short for a subject ends in one of its fields
+pub short_subject : (kind : Kind) (text : List ℕ) (e : DecodeError) → length text < 40 → e ≡ Short → FaultFrom (AtDigest kind) text e
+short_subject kind text e few is =
+    let numbers : List ℕ = drop 32 text in
+    elim (fewer 32 (length text)) [
+      | inl lt ↦ short_as (AtDigest kind) 32 text e refl lt is
+      | inr le ↦ later (AtDigest kind) (AtSubjectRound kind) text numbers e (passed (AtDigest kind) (AtSubjectRound kind) 32 text refl le refl) (short_numbers kind numbers e (omega (arith, few, length-drop 32 text)) is)
+    ]
 
 -- ---- the stages of the format
 
@@ -150,40 +180,38 @@ length-parent p typed = omega (arith, length-append (to_be_bytes w16 p.author) p
 
 -- ---- a certificate
 
-pub subject_at : (text digest after_digest after_round rest : List ℕ) (round author : ℕ) → AreBytes text → 32 ≤ length text → digest ≡ take 32 text → after_digest ≡ drop 32 text → RoundAt after_digest round after_round → NumberAt after_round author rest
-    → SubjectAt text (record { 0 = digest }) round author rest
-subject_at text digest after_digest after_round rest round author each long front back at_round at_author =
+-- the subject of 40 bytes that were read
+pub subject_read : (text digest after_digest after_round rest : List ℕ) (round author : ℕ) → AreBytes text → length text ≡ 40 → digest ≡ take 32 text → after_digest ≡ drop 32 text → RoundAt after_digest round after_round → NumberAt after_round author rest
+    → (s : Subject) → s ≡ record { digest = record { 0 = digest }; round = round; author = author } → IsSubject s × (text ≡ subject_bytes s)
+subject_read text digest after_digest after_round rest round author each long front back at_round at_author s is =
     let cut : text ≡ digest ++ after_digest = sym (take-append-drop 32 text) ∙ (λ i. sym front i ++ sym back i) in
     let numbers : after_digest ≡ round_bytes round ++ (to_be_bytes w16 author ++ rest) = at_round.bytes ∙ ap (λ (t : List ℕ). round_bytes round ++ t) at_author.bytes in
-    record {
-      typed = record {
+    let none : rest ≡ [] = nil_from_length rest (omega (arith, long, ap length back, length-drop 32 text, round_leaves _ _ _ at_round, number_len _ _ _ at_author)) in
+    let whole : text ≡ ((digest ++ round_bytes round) ++ to_be_bytes w16 author) ++ rest = cut ∙ ap (λ (t : List ℕ). digest ++ t) numbers ∙ sym (subject_laid_out digest (round_bytes round) (to_be_bytes w16 author) rest) in
+    rw is (
+      record {
         digest_len = omega (arith, ap length front, length-take 32 text, long);
         digest_bytes = (bytes_of digest after_digest text cut each).0;
         low_round = at_round.low;
         low_author = at_author.low;
-      };
-      bytes = cut ∙ ap (λ (t : List ℕ). digest ++ t) numbers ∙ sym (subject_laid_out digest (round_bytes round) (to_be_bytes w16 author) rest);
-    }
+      },
+      whole ∙ ap (λ (t : List ℕ). ((digest ++ round_bytes round) ++ to_be_bytes w16 author) ++ t) none ∙ append-nil _,
+    )
 
-pub length-seal : (s : Seal) → IsSeal s → length (seal_bytes s) ≡ 66
-length-seal s typed = omega (arith, length-append (to_be_bytes w16 s.signer) s.signature.0, typed.signature.len)
-
-length-seals : (seals : List Seal) → AllByRecursion IsSeal seals → length (flat_map seal_bytes seals) ≡ 66 * length seals
-length-seals [] typed = refl
-length-seals (s ∷ seals) typed = omega (arith, length-seal s typed.0, length-seals seals typed.1, length-append (seal_bytes s) (flat_map seal_bytes seals))
-
-pub certificate_lies : (text after_subject after_count rest : List ℕ) (digest : Digest) (round author count : ℕ) (seals : List ℕ)
-    → SubjectAt text digest round author after_subject → NumberAt after_subject count after_count → ItemsAt 66 count after_count seals rest
-    → CertificateRead text rest → rest ≡ [] → (c : Certificate) × Spells (2 ∷ text) (messages.Certificate c) × AreCertificateParts c digest round author seals
-certificate_lies text after_subject after_count rest digest round author count seals at_subject at_count at_seals r none =
+pub certificate_lies : (text front after_subject after_count rest : List ℕ) (count : ℕ) (seals : List ℕ)
+    → 40 ≤ length text → front ≡ take 40 text → after_subject ≡ drop 40 text → NumberAt after_subject count after_count → ItemsAt 66 count after_count seals rest
+    → CertificateRead text rest → rest ≡ [] → (c : Certificate) × Spells (2 ∷ text) (messages.Certificate c) × AreCertificateParts c front seals
+certificate_lies text front after_subject after_count rest count seals long first back at_count at_seals r none =
     let c : Certificate = r.found in
     let typed : AllByRecursion IsSeal c.votes = recursion_from_All IsSeal c.votes r.typed.votes in
-    let whole : text ≡ subject_bytes digest round author ++ (to_be_bytes w16 count ++ (seals ++ rest)) =
-    at_subject.bytes ∙ ap (λ (t : List ℕ). subject_bytes digest round author ++ t) (at_count.bytes ∙ ap (λ (t : List ℕ). to_be_bytes w16 count ++ t) at_seals.bytes) in
+    let parted : text ≡ front ++ after_subject = sym (take-append-drop 40 text) ∙ (λ i. sym first i ++ sym back i) in
+    let whole : text ≡ front ++ (to_be_bytes w16 count ++ (seals ++ rest)) =
+    parted ∙ ap (λ (t : List ℕ). front ++ t) (at_count.bytes ∙ ap (λ (t : List ℕ). to_be_bytes w16 count ++ t) at_seals.bytes) in
     let cut = ap (λ (t : List ℕ). (2 ∷ []) ++ t) (sym whole) ∙ r.cut ∙ certificate_message_is c rest in
     let tag = same_start (2 ∷ []) (2 ∷ []) _ _ refl cut in
-    let subject = same_subject digest c.digest round c.round author c.author _ _ at_subject.typed r.typed.subject tag.1 in
-    let number = same_start (to_be_bytes w16 count) (to_be_bytes w16 (length c.votes)) _ _ refl subject.rest in
+    let size : length front ≡ length (subject_bytes (certificate_subject c)) = omega (arith, ap length first, length-take 40 text, long, length-subject (certificate_subject c) r.typed.subject) in
+    let subject = same_start front (subject_bytes (certificate_subject c)) _ _ size tag.1 in
+    let number = same_start (to_be_bytes w16 count) (to_be_bytes w16 (length c.votes)) _ _ refl subject.1 in
     let many : count ≡ length c.votes = same16 count (length c.votes) at_count.low (counts_fit (messages.Certificate c) r.fits) number.0 in
     let votes = same_start seals (flat_map seal_bytes c.votes) rest rest (omega (arith, at_seals.len, many, length-seals c.votes typed)) number.1 in (
       c,
@@ -191,15 +219,13 @@ certificate_lies text after_subject after_count rest digest round author count s
       record {
         typed = r.typed;
         fits = r.fits;
-        digest_is = subject.digest;
-        round_is = subject.round;
-        author_is = subject.author;
+        subject_is = subject.0;
         seals_are = votes.0;
       },
     )
 
-pub seals_long : (c : Certificate) (digest : Digest) (round author : ℕ) (seals : List ℕ) → AreCertificateParts c digest round author seals → (n : ℕ) × (length seals ≡ 66 * n)
-seals_long c digest round author seals parts = (length c.votes, ap length parts.seals_are ∙ length-seals c.votes (recursion_from_All IsSeal c.votes parts.typed.votes))
+pub seals_long : (c : Certificate) (subject seals : List ℕ) → AreCertificateParts c subject seals → (n : ℕ) × (length seals ≡ 66 * n)
+seals_long c subject seals parts = (length c.votes, ap length parts.seals_are ∙ length-seals c.votes (recursion_from_All IsSeal c.votes parts.typed.votes))
 
 -- seals with the same encoding as the certificate's are the certificate's
 pub seals_built : (c : Certificate) (text : List ℕ) (seals : List Seal) → IsCertificate c → text ≡ flat_map seal_bytes c.votes → All IsSeal seals → text ≡ flat_map seal_bytes seals → seals ≡ c.votes
@@ -212,12 +238,12 @@ seals_built c text seals typed is each built =
 
 -- ---- a vote
 
-pub vote_lies : (text after_subject after_signer : List ℕ) (v : Vote) → SubjectAt text v.digest v.round v.author after_subject → NumberAt after_subject v.signer after_signer → LastSignature after_signer v.signature → Spells (3 ∷ text) (messages.Vote v)
-vote_lies text after_subject after_signer v at_subject at_signer last = record {
-  typed = record { subject = at_subject.typed; sealed = record { signer = at_signer.low; signature = last.signed } };
+pub vote_lies : (text front after_subject after_signer : List ℕ) (v : Vote) → front ≡ take 40 text → after_subject ≡ drop 40 text → IsSubject (vote_subject v) → front ≡ subject_bytes (vote_subject v) → NumberAt after_subject v.signer after_signer → LastSignature after_signer v.signature → Spells (3 ∷ text) (messages.Vote v)
+vote_lies text front after_subject after_signer v first back typed is at_signer last = record {
+  typed = record { subject = typed; sealed = record { signer = at_signer.low; signature = last.signed } };
   fits = tt;
   bytes =
       let sealed : after_subject ≡ seal_bytes (seal v) ++ [] = rw (at_signer.bytes, last.bytes) (sym (append_assoc (to_be_bytes w16 v.signer) v.signature.0 [])) in
-      let whole : text ≡ subject_bytes v.digest v.round v.author ++ (seal_bytes (seal v) ++ []) = rw (at_subject.bytes, sealed) refl in
+      let whole : text ≡ subject_bytes (vote_subject v) ++ (seal_bytes (seal v) ++ []) = sym (take-append-drop 40 text) ∙ (λ i. (sym first ∙ is) i ++ (sym back ∙ sealed) i) in
       ap (λ (t : List ℕ). (3 ∷ []) ++ t) whole ∙ sym (vote_message_is v []) ∙ append-nil (message (messages.Vote v));
 }

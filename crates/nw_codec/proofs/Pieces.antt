@@ -1,11 +1,14 @@
 -- Lists that are cut at known lengths, and numbers as bytes.
-use Rattle.std.proofs.Common.{◌≡◌, ℕ, zero, suc, ◌^◌, ◌/◌, ◌%◌, ◌<◌, List, [], ◌∷◌, ◌++◌, length, get_or, drop, refl, sym, ap, ◌∙◌, arith, inl, inr}
+use Rattle.std.proofs.Common.{◌≡◌, ℕ, zero, suc, ◌^◌, ◌/◌, ◌%◌, ◌<◌, List, [], ◌∷◌, ◌++◌, length, get_or, take, drop, refl, sym, ap, ◌∙◌, arith, inl, inr}
 use Rattle.std.specs.Int.{w16, w32, w64, to_be_bytes, from_be_bytes}
 use Rattle.std.proofs.lemmas.Bool.{cases_lt}
 use Rattle.std.proofs.lemmas.List.{get_or_past}
 use Rattle.std.proofs.lemmas.Nat.{be_bytes_2, be_bytes_4, be_bytes_8, from_be_bytes-to_be_bytes_2, from_be_bytes-to_be_bytes_4, from_be_bytes-to_be_bytes_8}
 use Rattle.nw_codec.specs.Typed.{AreBytes}
 use Rattle.nw_codec.specs.Grammar.{round_bytes}
+
+pub first_is : (a b : ℕ) (x y : List ℕ) → a ∷ x ≡ b ∷ y → a ≡ b
+first_is a b x y e = cc
 
 -- two lists that begin with pieces of one length begin with the same piece
 pub same_start : {A : Type 0} (a b x y : List A) → length a ≡ length b → a ++ x ≡ b ++ y → (a ≡ b) × (x ≡ y)
@@ -17,6 +20,15 @@ same_start (c ∷ a) (d ∷ b) x y l e =
     let tails : a ++ x ≡ b ++ y = cc in
     let both = same_start a b x y (omega (arith, l)) tails in
     (cc (heads, both.0), both.1)
+
+take_its_length : (n : ℕ) (xs : List ℕ) → take (length (take n xs)) xs ≡ take n xs
+take_its_length zero xs = refl
+take_its_length (suc n) [] = refl
+take_its_length (suc n) (x ∷ xs) = ap (λ (t : List ℕ). x ∷ t) (take_its_length n xs)
+
+-- a front with this text is the front of the text's length
+pub take_length : (n size : ℕ) (xs text : List ℕ) → take n xs ≡ text → length text ≡ size → take size xs ≡ text
+take_length n size xs text front e = ap (λ (k : ℕ). take k xs) (sym e ∙ sym (ap length front)) ∙ take_its_length n xs ∙ front
 
 pub byte_below : (bytes : List ℕ) → AreBytes bytes → (i : ℕ) → get_or bytes i 0 < 256
 byte_below bytes h i =

@@ -1,12 +1,12 @@
 -- Fields that lead to the end, read one by one.
-use Rattle.std.proofs.Common.{◌≡◌, ℕ, suc, ◌<◌, ◌≤◌, Bool, true, false, cond, eqb, List, [], ◌∷◌, ◌++◌, length, get_or, take, drop, Some, Result, Ok, Err, refl, sym, ap, subst, ◌∙◌, append_assoc, arith}
-use Rattle.std.specs.List.{flat_map}
+use Rattle.std.proofs.Common.{◌≡◌, ℕ, suc, ◌<◌, ◌≤◌, Bool, true, false, cond, eqb, List, [], ◌∷◌, ◌++◌, length, get_or, take, drop, Some, Ok, Err, refl, sym, ap, subst, ◌∙◌, append_assoc, arith}
 use Rattle.std.proofs.lemmas.Bool.{eqb-true}
 use Rattle.std.proofs.lemmas.List.{take_at, drop_at}
 use Rattle.std.proofs.lemmas.List.Elements.{All-take, All-drop}
 use Rattle.nw_codec.specs.declared.error.DecodeError.{DecodeError}
 use Rattle.nw_codec.specs.Typed.{AreBytes}
 use Rattle.nw_codec.specs.Faults.{Stage, AtEnd, width, after_field, Leads, Reaches}
+use Rattle.nw_codec.proofs.Fronts.{joined, some_is, going, going_is}
 
 -- ---- the first field
 
@@ -18,12 +18,6 @@ pub record Step (s : Stage) (w : ℕ) (text rest : List ℕ) : Type 0 where
   pub len : length field ≡ w
   pub passes : after_field s field ≡ Ok next
   pub onwards : Reaches next more AtEnd rest
-
-abbrev joined : List (List ℕ) → List ℕ
-joined fields = flat_map (λ field. field) fields
-
-some_is : (m n : ℕ) → Some m ≡ Some n → m ≡ n
-some_is m n e = cc
 
 no_width : (w : ℕ) → width AtEnd ≡ Some w → ⊥
 no_width w e = absurd cc
@@ -59,12 +53,6 @@ pub own_front : (text field more own : List ℕ) → text ≡ field ++ more → 
 own_front text field more own cut e = rw e cut
 
 -- ---- passed tests
-
-abbrev pub going : Stage → Result Stage DecodeError
-going s = Ok s
-
-pub going_is : (s t : Stage) → going s ≡ going t → s ≡ t
-going_is s t e = cc
 
 pub choice : (b : Bool) (d : DecodeError) (s t : Stage) → cond b (Err d) (Ok s) ≡ going t → (b ≡ false) × (s ≡ t)
 choice true d s t e = absurd cc

@@ -17,10 +17,10 @@ use Rattle.nw_codec.specs.Typed.{AreBytes, IsRef, IsBlock, IsSignature}
 use Rattle.nw_codec.specs.Faults.{AtVersion, AtAuthor, AtRound, AtParentCount, AtTransactionCount, AtTransactionLength, AtTransaction, AtSignature, AtEnd, at_parents, at_transactions, number16, number32, Reaches}
 use Rattle.nw_codec.proofs.Pieces.{back16, below16, back32, round_of, back48, below48}
 use Rattle.nw_codec.proofs.Ascending.{Ascends, increasing}
-use Rattle.nw_codec.proofs.Fronts.{here, one_end}
+use Rattle.nw_codec.proofs.Fronts.{going_is, here, one_end}
 use Rattle.nw_codec.proofs.WrittenBlock.{block_message_is}
 use Rattle.nw_codec.proofs.Items.{parent_kind, read_items}
-use Rattle.nw_codec.proofs.Steps.{step, to, bytes_of, own_front, going_is, choice, two_choices, one_more, two_pieces, with_rest, at_most, read_one}
+use Rattle.nw_codec.proofs.Steps.{step, to, bytes_of, own_front, choice, two_choices, one_more, two_pieces, with_rest, at_most, read_one}
 
 -- ---- transactions
 

@@ -10,7 +10,8 @@ use Rattle.nw_codec.specs.Fits.{MessageFits}
 use Rattle.nw_codec.specs.Typed.{AreBytes, IsMessage}
 use Rattle.nw_codec.specs.Faults.{Stage, OfCertificate, OfVote, AtTag, AtVersion, AtDigest, AtEnd, Reaches}
 use Rattle.nw_codec.specs.Spelled.{IsSpelled}
-use Rattle.nw_codec.proofs.Steps.{step, to, bytes_of, own_front, going, going_is, else_choice}
+use Rattle.nw_codec.proofs.Fronts.{going, going_is}
+use Rattle.nw_codec.proofs.Steps.{step, to, bytes_of, own_front, else_choice}
 use Rattle.nw_codec.proofs.WholeBlock.{read_block}
 use Rattle.nw_codec.proofs.WholeVotes.{read_certificate, read_vote}
 

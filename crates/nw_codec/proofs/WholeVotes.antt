@@ -4,8 +4,8 @@ use Rattle.std.specs.Int.{w16, to_be_bytes}
 use Rattle.std.specs.List.{flat_map}
 use Rattle.std.proofs.lemmas.Bool.{ltb-false}
 use Rattle.std.proofs.lemmas.List.Elements.{All-from_recursion}
-use Rattle.nw_digest.specs.declared.digest.Digest.{Digest}
 use Rattle.nw_codec.specs.declared.certificate.Certificate.{Certificate}
+use Rattle.nw_codec.specs.declared.subject.Subject.{Subject}
 use Rattle.nw_codec.specs.declared.vote.Vote.{Vote}
 use Rattle.nw_codec.specs.declared.message.Message.TheVariants as messages
 use Rattle.nw_codec.specs.declared.error.DecodeError.TheVariants.{TooManyVotes}
@@ -15,23 +15,18 @@ use Rattle.nw_codec.specs.Typed.{AreBytes, IsSeal, IsSubject, IsCertificate, IsV
 use Rattle.nw_codec.specs.Faults.{Kind, OfCertificate, OfVote, AtDigest, AtSubjectRound, AtSubjectAuthor, AtVoteCount, AtEnd, at_seals, stage_after_subject, number16, Reaches}
 use Rattle.nw_codec.proofs.Pieces.{back16, below16, round_of, back48, below48}
 use Rattle.nw_codec.proofs.Ascending.{increasing}
-use Rattle.nw_codec.proofs.Fronts.{here, one_end}
-use Rattle.nw_codec.proofs.WrittenVotes.{subject_laid_out, certificate_message_is, vote_message_is}
+use Rattle.nw_codec.proofs.Fronts.{going_is, here, one_end}
+use Rattle.nw_codec.proofs.WrittenVotes.{certificate_message_is, vote_message_is}
 use Rattle.nw_codec.proofs.Items.{seal_kind, read_item, read_items}
-use Rattle.nw_codec.proofs.Steps.{step, to, bytes_of, own_front, going_is, choice, with_rest, at_most}
+use Rattle.nw_codec.proofs.Steps.{step, to, bytes_of, own_front, choice, two_pieces, with_rest, at_most}
 
 -- ---- the subject
 
-subject_pieces : (text a b c d e f : List ℕ) → text ≡ a ++ b → b ≡ c ++ d → d ≡ e ++ f → text ≡ ((a ++ c) ++ e) ++ f
-subject_pieces text a b c d e f p q r = rw (p, q, r) (sym (subject_laid_out a c e f))
-
 record SubjectRead (kind : Kind) (text rest : List ℕ) : Type 0 where
-  digest : Digest
-  round : ℕ
-  author : ℕ
+  subject : Subject
   more : List ℕ
-  typed : IsSubject digest round author
-  cut : text ≡ subject_bytes digest round author ++ more
+  typed : IsSubject subject
+  cut : text ≡ subject_bytes subject ++ more
   bytes : AreBytes more
   onwards : Reaches (stage_after_subject kind) more AtEnd rest
 
@@ -48,12 +43,10 @@ read_subject kind text rest bytes front =
     let round-cut : at_digest.more ≡ round_bytes round ++ at_round.more = own_front at_digest.more at_round.field at_round.more (round_bytes round) at_round.cut (back48 at_round.field at_round.len round-bytes.0) in
     let author-cut : at_round.more ≡ to_be_bytes w16 author ++ at_author.more = own_front at_round.more at_author.field at_author.more (to_be_bytes w16 author) at_author.cut (back16 at_author.field at_author.len author-bytes.0) in
     record {
-      digest = record { 0 = at_digest.field };
-      round = round;
-      author = author;
+      subject = record { digest = record { 0 = at_digest.field }; round = round; author = author };
       more = at_author.more;
       typed = record { digest_len = at_digest.len; digest_bytes = digest-bytes.0; low_round = below48 at_round.field round-bytes.0; low_author = below16 at_author.field author-bytes.0 };
-      cut = subject_pieces text at_digest.field at_digest.more (round_bytes round) at_round.more (to_be_bytes w16 author) at_author.more at_digest.cut round-cut author-cut;
+      cut = two_pieces text at_digest.field at_digest.more (round_bytes round) at_round.more (to_be_bytes w16 author) at_author.more at_digest.cut round-cut author-cut;
       bytes = author-bytes.1;
       onwards = to at_author.next (stage_after_subject kind) at_author.more rest (sym {b = at_author.next} (going_is (stage_after_subject kind) at_author.next at_author.passes)) at_author.onwards;
     }
@@ -82,8 +75,8 @@ read_certificate text rest bytes front =
     let tail : List ℕ = flat_map seal_bytes listed.items ++ rest in
     let seals : number.more ≡ flat_map seal_bytes listed.items ++ rest = with_rest number.more (flat_map seal_bytes listed.items) listed.more rest listed.cut (ended listed.more rest listed.onwards) in
     let counted : subject.more ≡ to_be_bytes w16 count ++ tail = with_rest subject.more (to_be_bytes w16 count) number.more tail (own_front subject.more number.field number.more (to_be_bytes w16 count) number.cut count-bytes) seals in
-    let whole : text ≡ subject_bytes subject.digest subject.round subject.author ++ (to_be_bytes w16 count ++ tail) = with_rest text (subject_bytes subject.digest subject.round subject.author) subject.more (to_be_bytes w16 count ++ tail) subject.cut counted in
-    let c : Certificate = record { digest = subject.digest; round = subject.round; author = subject.author; votes = listed.items } in
+    let whole : text ≡ subject_bytes subject.subject ++ (to_be_bytes w16 count ++ tail) = with_rest text (subject_bytes subject.subject) subject.more (to_be_bytes w16 count ++ tail) subject.cut counted in
+    let c : Certificate = record { digest = subject.subject.digest; round = subject.subject.round; author = subject.subject.author; votes = listed.items } in
     record {
       found = c;
       typed = record { subject = subject.typed; votes = All-from_recursion IsSeal listed.items listed.typed };
@@ -103,8 +96,8 @@ read_vote text rest bytes front =
     let subject = read_subject OfVote text rest bytes front in
     let one = read_item seal_kind 0 None subject.more rest subject.bytes subject.onwards in
     let sealed : subject.more ≡ seal_bytes one.found ++ rest = with_rest subject.more (seal_bytes one.found) one.after rest one.cut (ended one.after rest one.onwards) in
-    let whole : text ≡ subject_bytes subject.digest subject.round subject.author ++ (seal_bytes one.found ++ rest) = with_rest text (subject_bytes subject.digest subject.round subject.author) subject.more (seal_bytes one.found ++ rest) subject.cut sealed in
-    let v : Vote = record { digest = subject.digest; round = subject.round; author = subject.author; signer = one.found.signer; signature = one.found.signature } in
+    let whole : text ≡ subject_bytes subject.subject ++ (seal_bytes one.found ++ rest) = with_rest text (subject_bytes subject.subject) subject.more (seal_bytes one.found ++ rest) subject.cut sealed in
+    let v : Vote = record { digest = subject.subject.digest; round = subject.subject.round; author = subject.subject.author; signer = one.found.signer; signature = one.found.signature } in
     record {
       found = v;
       typed = record { subject = subject.typed; sealed = one.typed };

@@ -21,6 +21,10 @@ transactions_size transactions = sum_by (λ t. 4 + length t) transactions
 abbrev pub body_size : Block → ℕ
 body_size b = 13 + 34 * length b.parents + transactions_size b.transactions
 
+-- the size of a block's message: the tag, the body and a signature
+abbrev pub block_size : Block → ℕ
+block_size b = 1 + body_size b + 64
+
 -- the block keeps the limits of the format
 pub record Fits (b : Block) : Type 0 where
   -- at most 100 parents
@@ -44,6 +48,14 @@ pub record CertificateFits (c : Certificate) : Type 0 where
   pub few_votes : length c.votes ≤ most_votes
   -- their signers ascend strictly
   pub votes_in_order : IsStrictlyIncreasing (signers c.votes)
+
+-- the size of a certificate's message: the tag, the subject and the number of votes take 43 bytes, and each vote takes 66
+abbrev pub certificate_size : Certificate → ℕ
+certificate_size c = 43 + 66 * length c.votes
+
+-- the size of a vote's message: the tag, the subject and a seal
+abbrev pub vote_size : ℕ
+vote_size = 107
 
 -- the block or certificate of the message keeps the limits; a vote always does
 abbrev pub MessageFits : Message → Type 0

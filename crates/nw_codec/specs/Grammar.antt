@@ -2,11 +2,12 @@
 use Rattle.std.specs.Prelude.{ℕ, List, ◌∷◌, ◌++◌, length, drop}
 use Rattle.std.specs.List.{flat_map}
 use Rattle.std.specs.Int.{to_be_bytes, w16, w64}
-use Rattle.nw_digest.specs.declared.digest.Digest.{Digest}
 use Rattle.nw_codec.specs.Packed.{transaction_bytes}
+use Rattle.nw_codec.specs.Subject.{certificate_subject, vote_subject}
 use Rattle.nw_codec.specs.declared.block.Ref.{Ref}
 use Rattle.nw_codec.specs.declared.block.Block.{Block}
 use Rattle.nw_codec.specs.declared.certificate.Seal.{Seal}
+use Rattle.nw_codec.specs.declared.subject.Subject.{Subject}
 use Rattle.nw_codec.specs.declared.vote.Vote.{Vote}
 use Rattle.nw_codec.specs.declared.message.Message.{Message}
 use Rattle.nw_codec.specs.declared.message.Message.TheVariants as messages
@@ -27,8 +28,8 @@ body b =
     ++ to_be_bytes w16 (length b.transactions) ++ flat_map transaction_bytes b.transactions
 
 -- the subject of a vote or a certificate: the digest, the round and the author of a block
-abbrev pub subject_bytes : Digest → ℕ → ℕ → List ℕ
-subject_bytes digest round author = digest.0 ++ round_bytes round ++ to_be_bytes w16 author
+abbrev pub subject_bytes : Subject → List ℕ
+subject_bytes s = s.digest.0 ++ round_bytes s.round ++ to_be_bytes w16 s.author
 
 -- a seal: its signer in two bytes, and its signature
 abbrev pub seal_bytes : Seal → List ℕ
@@ -41,5 +42,5 @@ seal v = record { signer = v.signer; signature = v.signature }
 -- tag 1, the body, the author's signature; tag 2, the subject, the number of seals, the seals; or tag 3, the subject, one seal
 unfoldable pub message : Message → List ℕ
 message (messages.Block b s) = 1 ∷ body b ++ s.0
-message (messages.Certificate c) = 2 ∷ subject_bytes c.digest c.round c.author ++ to_be_bytes w16 (length c.votes) ++ flat_map seal_bytes c.votes
-message (messages.Vote v) = 3 ∷ subject_bytes v.digest v.round v.author ++ seal_bytes (seal v)
+message (messages.Certificate c) = 2 ∷ subject_bytes (certificate_subject c) ++ to_be_bytes w16 (length c.votes) ++ flat_map seal_bytes c.votes
+message (messages.Vote v) = 3 ∷ subject_bytes (vote_subject v) ++ seal_bytes (seal v)

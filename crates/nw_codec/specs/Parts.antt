@@ -2,7 +2,6 @@
 use Rattle.std.specs.Prelude.{◌≡◌, ◌⊎◌, ℕ, suc, ◌*◌, ◌<◌, ◌^◌, nat_lt, List, [], ◌∷◌, ◌++◌, length, MatchResult, Option, Some, None, Result, Ok, Err, if◌then◌else◌}
 use Rattle.std.specs.List.{flat_map}
 use Rattle.std.specs.Int.{to_be_bytes, w16}
-use Rattle.nw_digest.specs.declared.digest.Digest.{Digest}
 use Rattle.nw_codec.specs.declared.block.Block.{Block}
 use Rattle.nw_codec.specs.declared.certificate.Certificate.{Certificate}
 use Rattle.nw_codec.specs.declared.certificate.Signature.{Signature}
@@ -12,9 +11,10 @@ use Rattle.nw_codec.specs.declared.error.DecodeError.TheVariants.{NoMemory}
 use Rattle.nw_codec.specs.Grammar.{round_bytes, parent_bytes, subject_bytes, seal_bytes}
 use Rattle.nw_codec.specs.Packed.{transaction_bytes}
 use Rattle.nw_codec.specs.Fits.{Fits, CertificateFits}
-use Rattle.nw_codec.specs.Typed.{IsBlock, IsSignature, IsSubject, IsCertificate}
+use Rattle.nw_codec.specs.Typed.{IsBlock, IsSignature, IsCertificate}
 use Rattle.nw_codec.specs.Faults.{Stage, AtEnd, width, after_field, number16, comes_after, IsFirstFault}
 use Rattle.nw_codec.specs.Spelled.{Spells, DecodingAllocates}
+use Rattle.nw_codec.specs.Subject.{certificate_subject}
 
 -- ---- the parts at the front of a text
 
@@ -65,13 +65,6 @@ pub record TransactionsAt (text : List ℕ) (count : ℕ) (transactions rest : L
   pub low : count < 2 ^ 16
   -- the text begins with the number and the transactions
   pub bytes : text ≡ to_be_bytes w16 count ++ (transactions ++ rest)
-
--- a subject, before the rest
-pub record SubjectAt (text : List ℕ) (digest : Digest) (round author : ℕ) (rest : List ℕ) : Type 0 where
-  -- the parts are in the ranges of the program
-  pub typed : IsSubject digest round author
-  -- the text begins with the subject
-  pub bytes : text ≡ subject_bytes digest round author ++ rest
 
 -- the text is this signature, and nothing follows
 pub record LastSignature (text : List ℕ) (s : Signature) : Type 0 where
@@ -134,17 +127,13 @@ pub record AreBlockParts (b : Block) (author round : ℕ) (parents : List ℕ) (
   pub transactions_are : transactions ≡ flat_map transaction_bytes b.transactions
 
 -- these are the parts of the certificate's text
-pub record AreCertificateParts (c : Certificate) (digest : Digest) (round author : ℕ) (seals : List ℕ) : Type 0 where
+pub record AreCertificateParts (c : Certificate) (subject seals : List ℕ) : Type 0 where
   -- a certificate of the program
   pub typed : IsCertificate c
   -- it keeps the limits of the format
   pub fits : CertificateFits c
-  -- its digest
-  pub digest_is : digest ≡ c.digest
-  -- its round
-  pub round_is : round ≡ c.round
-  -- its author
-  pub author_is : author ≡ c.author
+  -- the encoding of its subject
+  pub subject_is : subject ≡ subject_bytes (certificate_subject c)
   -- the encoding of its seals
   pub seals_are : seals ≡ flat_map seal_bytes c.votes
 

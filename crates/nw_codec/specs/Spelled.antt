@@ -3,7 +3,6 @@ use Rattle.std.specs.Prelude.{◌≡◌, ◌≢◌, ◌⊎◌, ℕ, List, [], �
 use Rattle.nw_codec.specs.declared.block.Block.{Block}
 use Rattle.nw_codec.specs.declared.certificate.Signature.{Signature}
 use Rattle.nw_codec.specs.declared.certificate.Certificate.{Certificate}
-use Rattle.nw_codec.specs.declared.vote.Vote.{Vote}
 use Rattle.nw_codec.specs.declared.message.Message.{Message}
 use Rattle.nw_codec.specs.declared.message.Message.TheVariants as messages
 use Rattle.nw_codec.specs.Grammar.{message}
@@ -30,10 +29,6 @@ IsBlockText text = (b : Block) × (s : Signature) × Spells text (messages.Block
 -- the text encodes a certificate
 abbrev pub IsCertificateText : List ℕ → Type 0
 IsCertificateText text = (c : Certificate) × Spells text (messages.Certificate c)
-
--- the text encodes a vote
-abbrev pub IsVoteText : List ℕ → Type 0
-IsVoteText text = (v : Vote) × Spells text (messages.Vote v)
 
 -- decoding the text allocates: it encodes a block or a certificate
 abbrev pub DecodingAllocates : List ℕ → Type 0

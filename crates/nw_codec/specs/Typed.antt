@@ -2,7 +2,7 @@
 use Rattle.std.specs.Prelude.{◌≡◌, ℕ, ◌<◌, ◌^◌, List, length, All}
 use Rattle.nw_codec.specs.declared.block.Ref.{Ref}
 use Rattle.nw_codec.specs.declared.block.Block.{Block}
-use Rattle.nw_digest.specs.declared.digest.Digest.{Digest}
+use Rattle.nw_codec.specs.declared.subject.Subject.{Subject}
 use Rattle.nw_codec.specs.declared.certificate.Signature.{Signature}
 use Rattle.nw_codec.specs.declared.certificate.Seal.{Seal}
 use Rattle.nw_codec.specs.declared.certificate.Certificate.{Certificate}
@@ -10,6 +10,7 @@ use Rattle.nw_codec.specs.declared.vote.Vote.{Vote}
 use Rattle.nw_codec.specs.declared.message.Message.{Message}
 use Rattle.nw_codec.specs.declared.message.Message.TheVariants as messages
 use Rattle.nw_codec.specs.Grammar.{seal}
+use Rattle.nw_codec.specs.Subject.{certificate_subject, vote_subject}
 
 -- each number is a byte
 abbrev pub AreBytes : List ℕ → Type 0
@@ -49,28 +50,28 @@ pub record IsSeal (s : Seal) : Type 0 where
   -- 64 bytes
   pub signature : IsSignature s.signature
 
--- the subject of a vote of the program
-pub record IsSubject (digest : Digest) (round author : ℕ) : Type 0 where
+-- a subject of the program
+pub record IsSubject (s : Subject) : Type 0 where
   -- the digest has 32 numbers
-  pub digest_len : length digest.0 ≡ 32
+  pub digest_len : length s.digest.0 ≡ 32
   -- each is a byte
-  pub digest_bytes : AreBytes digest.0
+  pub digest_bytes : AreBytes s.digest.0
   -- six bytes
-  pub low_round : round < 2 ^ 48
+  pub low_round : s.round < 2 ^ 48
   -- two bytes
-  pub low_author : author < 2 ^ 16
+  pub low_author : s.author < 2 ^ 16
 
 -- a certificate of the program
 pub record IsCertificate (c : Certificate) : Type 0 where
   -- digest, round and author
-  pub subject : IsSubject c.digest c.round c.author
+  pub subject : IsSubject (certificate_subject c)
   -- each vote is a seal of the program
   pub votes : All IsSeal c.votes
 
 -- a vote of the program
 pub record IsVote (v : Vote) : Type 0 where
   -- digest, round and author
-  pub subject : IsSubject v.digest v.round v.author
+  pub subject : IsSubject (vote_subject v)
   -- the signer and its signature
   pub sealed : IsSeal (seal v)
 

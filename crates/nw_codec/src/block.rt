@@ -1,12 +1,15 @@
 //! Blocks of transactions, and references to blocks.
-ghost use Rattle.std.specs.Prelude.{◌≡◌, ◌↔◌, ◌<◌, ◌≤◌, IsTrue};
+ghost use Rattle.std.specs.Prelude.{◌≡◌, ◌↔◌, ◌<◌, ◌≤◌, ℕ, List, length, IsTrue};
 ghost use Rattle.std.specs.List.Sorted.{IsStrictlyIncreasing};
-ghost use Rattle.nw_codec.specs.Fits.{Fits, authors, body_size};
-ghost use Rattle.nw_codec.specs.Limits.{longest_body};
+ghost use Rattle.nw_codec.specs.declared.certificate.Signature.{Signature};
+ghost use Rattle.nw_codec.specs.declared.message.Message.TheVariants as messages;
+ghost use Rattle.nw_codec.specs.Fits.{Fits, authors, block_size, body_size};
+ghost use Rattle.nw_codec.specs.Limits.{longest_body, most_parents};
+ghost use Rattle.nw_codec.specs.Spelled.{Spells};
 ghost use Rattle.nw_codec.specs.Subject.{block_subject};
 
 use crate::Subject;
-use crate::limits::{MAX_BODY, MAX_PARENTS, MAX_TRANSACTIONS};
+use crate::limits::{MAX_BODY, MAX_PARENTS, MAX_TRANSACTIONS, PARENT_BYTES, SIGNATURE_BYTES};
 use crate::transactions::Transactions;
 use nw_digest::{Digest, InRound, Round, Sequence};
 
@@ -36,7 +39,7 @@ impl Block {
         parents.len() <= MAX_PARENTS
             && is_ascending(parents)
             && self.transactions.len() <= MAX_TRANSACTIONS
-            && 13 + 34 * parents.len() + self.transactions.size() <= MAX_BODY
+            && self.size() <= MAX_BODY
     }
 
     /// The subject of the votes and the certificate for the block. `digest` must be its digest.
@@ -56,7 +59,25 @@ impl Block {
         ensures size { result ≡ body_size self.now }
         ensures small { result ≤ longest_body }
     {
-        13 + 34 * self.parents.as_slice().len() + self.transactions.size()
+        self.size()
+    }
+
+    /// The size of its message in bytes: the tag, the body and a signature. The block must fit (`Block::fits`).
+    pub fn message_size(&self) -> usize
+        requires { Fits self.now }
+        ensures size { result ≡ block_size self.now }
+        ensures spelled { (text : List ℕ) (s : Signature) → Spells text (messages.Block self.now s)
+            → length text ≡ result }
+    {
+        1 + self.body_size() + SIGNATURE_BYTES
+    }
+
+    /// The size of its body in bytes. It must have at most 100 parents.
+    fn size(&self) -> usize
+        requires { length self.now.parents ≤ most_parents }
+        ensures { result ≡ body_size self.now }
+    {
+        13 + PARENT_BYTES * self.parents.as_slice().len() + self.transactions.size()
     }
 }
 

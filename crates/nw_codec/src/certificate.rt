@@ -1,11 +1,13 @@
 //! Certificates: a block's digest with the signatures of members that voted for it.
-ghost use Rattle.std.specs.Prelude.{◌≡◌, ◌↔◌, IsTrue};
+ghost use Rattle.std.specs.Prelude.{◌≡◌, ◌↔◌, ℕ, List, length, IsTrue};
 ghost use Rattle.std.specs.List.Sorted.{IsStrictlyIncreasing};
-ghost use Rattle.nw_codec.specs.Fits.{CertificateFits, signers};
+ghost use Rattle.nw_codec.specs.declared.message.Message.TheVariants as messages;
+ghost use Rattle.nw_codec.specs.Fits.{CertificateFits, certificate_size, signers};
+ghost use Rattle.nw_codec.specs.Spelled.{Spells};
 ghost use Rattle.nw_codec.specs.Subject.{certificate_subject};
 
 use crate::Subject;
-use crate::limits::MAX_VOTES;
+use crate::limits::{MAX_VOTES, SEAL_BYTES, SUBJECT_BYTES};
 use nw_digest::{Digest, InRound, Round, Sequence};
 
 /// A signature of 64 bytes.
@@ -47,6 +49,17 @@ impl Certificate {
             round: self.round,
             author: self.author,
         }
+    }
+
+    /// The size of its message in bytes: the tag, the subject, the number of votes in two bytes, and the votes. The certificate
+    /// must fit (`Certificate::fits`).
+    pub fn message_size(&self) -> usize
+        requires { CertificateFits self.now }
+        ensures size { result ≡ certificate_size self.now }
+        ensures spelled { (text : List ℕ) → Spells text (messages.Certificate self.now)
+            → length text ≡ result }
+    {
+        1 + SUBJECT_BYTES + 2 + SEAL_BYTES * self.votes.as_slice().len()
     }
 }
 

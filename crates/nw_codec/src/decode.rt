@@ -13,7 +13,7 @@ use crate::{DecodeError, Message};
 use block::decode_block;
 use certificate::{decode_certificate, decode_vote};
 use fields::field;
-pub(crate) use fields::{front, number_of, round_of};
+pub(crate) use fields::{front, number_of, round_of, subject_of};
 use std::alloc::Global;
 
 /// The message of the text. It checks the whole text before it allocates.

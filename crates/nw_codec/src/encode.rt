@@ -1,64 +1,30 @@
 //! Encodes bodies and messages.
-ghost use Rattle.std.specs.Prelude.{◌≡◌, ◌↔◌, ◌++◌, ◌<◌, ℕ};
-ghost use Rattle.std.specs.Prelude.{IfOk, OnOk, IsErrOf, All, List};
+ghost use Rattle.std.specs.Prelude.{◌≡◌, ◌↔◌, ◌++◌, ◌<◌, ◌≤◌, ◌+◌, ◌*◌, ℕ, []};
+ghost use Rattle.std.specs.Prelude.{IfOk, OnOk, IsErrOf, All, List, length, take};
 ghost use Rattle.std.specs.List.{flat_map};
 ghost use Rattle.std.specs.Int.{to_be_bytes};
 ghost use Rattle.sha2.specs.Sha256.{sha256};
-ghost use Rattle.nw_codec.specs.Grammar.{body, parent_bytes};
-ghost use Rattle.nw_codec.specs.Fits.{Fits, MessageFits};
-ghost use Rattle.nw_codec.specs.Typed.{AreBytes, IsRef, IsBlock};
+ghost use Rattle.nw_codec.specs.Grammar.{body, message, parent_bytes};
+ghost use Rattle.nw_codec.specs.Fits.{Fits, MessageFits, block_size, body_size};
+ghost use Rattle.nw_codec.specs.Typed.{IsRef, IsBlock, IsMessage};
 ghost use Rattle.nw_codec.specs.Spelled.{Spells};
 
 mod certificate;
+mod sink;
 
-use crate::limits::{BLOCK_TAG, SIGNATURE_BYTES, VERSION};
+use crate::limits::{BLOCK_TAG, VERSION};
 use crate::{Block, EncodeError, Message, Ref, Signature};
-use certificate::{encode_certificate_message, encode_vote_message};
-use nw_digest::Digest;
+use nw_digest::{Digest, NoMemory};
 use sha2::Sha256;
-use std::alloc::{AllocError, Global};
-use std::convert::Infallible;
-
-/// A destination of encoded bytes, which takes them piece by piece.
-trait Sink {
-    /// Why it did not take a piece.
-    type Refusal: Drop;
-
-    // The pieces taken so far make this text.
-    ghost holds: { Self → List ℕ → Type 0 };
-
-    fn put(&mut self, piece: &[u8]) -> Result<(), Self::Refusal>
-        ensures text { OnOk result
-            ((text : List ℕ) → holds self.old text → holds self.new (text ++ piece.now)) }
-        ensures bytes { AreBytes piece.now };
-}
-
-impl Sink for Vec<u8> {
-    type Refusal = AllocError;
-
-    ghost holds = { λ v text. v.items ≡ text };
-
-    fn put(&mut self, piece: &[u8]) -> Result<(), AllocError> {
-        self.extend_from_slice(piece)
-    }
-}
-
-impl Sink for Sha256 {
-    type Refusal = Infallible;
-
-    ghost use Rattle.sha2.specs.Hashers.{Holds256};
-
-    ghost holds = { λ s text. Holds256 s text };
-
-    fn put(&mut self, piece: &[u8]) -> Result<(), Infallible> {
-        sha2::Digest::update(self, piece);
-        Ok(())
-    }
-}
+use sink::{Front, Sink};
+use std::alloc::Global;
 
 fn put_parents<S: Sink>(sink: &mut S, parents: &[Ref]) -> Result<(), S::Refusal>
+    requires { 34 * length parents.now ≤ S.room sink.old }
     ensures text { OnOk result ((text : List ℕ) → S.holds sink.old text
         → S.holds sink.new (text ++ flat_map parent_bytes parents.now)) }
+    ensures room { OnOk result (S.room sink.old ≤ S.room sink.new + 34 * length parents.now) }
+    ensures place { S.place sink.new ≡ S.place sink.old }
     ensures typed { OnOk result (All IsRef parents.now) }
 {
     for parent in parents {
@@ -71,9 +37,12 @@ fn put_parents<S: Sink>(sink: &mut S, parents: &[Ref]) -> Result<(), S::Refusal>
 /// Writes the body of the block, field by field.
 #[tactic(auto, unfolding(crate::specs::Grammar::body))]
 fn put_body<S: Sink>(sink: &mut S, block: &Block) -> Result<(), S::Refusal>
-    requires { Fits block.now }
+    requires fits { Fits block.now }
+    requires room { body_size block.now ≤ S.room sink.old }
     ensures text { OnOk result
         ((text : List ℕ) → S.holds sink.old text → S.holds sink.new (text ++ body block.now)) }
+    ensures room { OnOk result (S.room sink.old ≤ S.room sink.new + body_size block.now) }
+    ensures place { S.place sink.new ≡ S.place sink.old }
     ensures typed { OnOk result (IsBlock block.now) }
 {
     let parents = block.parents.as_slice();
@@ -84,6 +53,20 @@ fn put_body<S: Sink>(sink: &mut S, block: &Block) -> Result<(), S::Refusal>
     put_parents(sink, parents)?;
     sink.put(&(block.transactions.len() as u16).to_be_bytes())?;
     sink.put(block.transactions.text())
+}
+
+/// Writes the message of the block with this signature.
+fn put_block<S: Sink>(sink: &mut S, block: &Block, signature: &Signature) -> Result<(), S::Refusal>
+    requires fits { Fits block.now }
+    requires room { block_size block.now ≤ S.room sink.old }
+    ensures text { OnOk result (S.holds sink.old []
+        → S.holds sink.new (message (Message.Block block.now signature.now))) }
+    ensures place { S.place sink.new ≡ S.place sink.old }
+    ensures typed { OnOk result (IsMessage (Message.Block block.now signature.now)) }
+{
+    sink.put(&[BLOCK_TAG])?;
+    put_body(sink, block)?;
+    sink.put(&signature.0)
 }
 
 /// The SHA-256 digest of the block's body. The block must fit (`Block::fits`). It hashes the body field by field, and makes no
@@ -99,6 +82,51 @@ pub fn block_digest(block: &Block) -> Digest
     }
 }
 
+impl Block {
+    /// The encoding of its body. The block must fit (`Block::fits`). `NoMemory` if the allocation fails.
+    pub fn body(&self, alloc: Global) -> Result<Vec<u8>, NoMemory>
+        requires { Fits self.now }
+        ensures text { IfOk result (λ v. v.items ≡ body self.now) }
+        ensures size { IfOk result (λ v. length v.items ≡ body_size self.now) }
+    {
+        let mut bytes = Vec::with_capacity(alloc, self.body_size())?;
+        put_body(&mut bytes, self)?;
+        Ok(bytes)
+    }
+
+    /// The text of its message, with this signature. The block must fit (`Block::fits`). `NoMemory` if the allocation fails.
+    pub fn message(&self, alloc: Global, signature: &Signature) -> Result<Vec<u8>, NoMemory>
+        requires { Fits self.now }
+        ensures { IfOk result (λ v. Spells v.items (Message.Block self.now signature.now)) }
+    {
+        let mut text = Vec::with_capacity(alloc, self.message_size())?;
+        put_block(&mut text, self, signature)?;
+        Ok(text)
+    }
+
+    /// Writes its body to the front of the buffer. The block must fit (`Block::fits`), and the buffer must have at least
+    /// `Block::body_size` bytes. It makes no allocation.
+    pub fn write_body(&self, buffer: &mut [u8])
+        requires fits { Fits self.now }
+        requires room { body_size self.now ≤ length buffer.old }
+        ensures { take (body_size self.now) buffer.new ≡ body self.now }
+    {
+        let mut front = Front { buffer, filled: 0 };
+        let Ok(()) = put_body(&mut front, self);
+    }
+
+    /// Writes the text of its message, with this signature, to the front of the buffer. The block must fit (`Block::fits`), and
+    /// the buffer must have at least `Block::message_size` bytes. It makes no allocation.
+    pub fn write_message(&self, signature: &Signature, buffer: &mut [u8])
+        requires fits { Fits self.now }
+        requires room { block_size self.now ≤ length buffer.old }
+        ensures { Spells (take (block_size self.now) buffer.new) (Message.Block self.now signature.now) }
+    {
+        let mut front = Front { buffer, filled: 0 };
+        let Ok(()) = put_block(&mut front, self, signature);
+    }
+}
+
 /// The encoding of the block's body. Fails with `OverLimit` exactly when the block does not fit (`Block::fits`), and with
 /// `NoMemory` if the allocation fails.
 pub fn encode_body(alloc: Global, block: &Block) -> Result<Vec<u8>, EncodeError>
@@ -109,45 +137,22 @@ pub fn encode_body(alloc: Global, block: &Block) -> Result<Vec<u8>, EncodeError>
     if !block.fits() {
         return Err(EncodeError::OverLimit);
     }
-    let mut bytes = Vec::with_capacity(alloc, block.body_size())?;
-    put_body(&mut bytes, block)?;
-    Ok(bytes)
+    Ok(block.body(alloc)?)
 }
 
-/// The text of a block's message, with this block and signature. Fails with `OverLimit` exactly when the block does not fit
-/// (`Block::fits`), and with `NoMemory` if the allocation fails.
-pub fn encode_block(
-    alloc: Global,
-    block: &Block,
-    signature: &Signature,
-) -> Result<Vec<u8>, EncodeError>
-    ensures spells { IfOk result (λ v. Spells v.items (Message.Block block.now signature.now)) }
-    ensures over_limit { IsErrOf result EncodeError.OverLimit ↔ (Fits block.now → ⊥) }
-{
-    if !block.fits() {
-        return Err(EncodeError::OverLimit);
-    }
-    let mut text = Vec::with_capacity(alloc, 1 + block.body_size() + SIGNATURE_BYTES)?;
-    text.put(&[BLOCK_TAG])?;
-    put_body(&mut text, block)?;
-    text.put(&signature.0)?;
-    Ok(text)
-}
-
-/// The text of the message. Fails with `OverLimit` exactly when its block or certificate does not fit (`Block::fits`,
-/// `Certificate::fits`), and with `NoMemory` if the allocation fails. A vote always fits.
+/// The text of the message. Fails with `OverLimit` exactly when the message does not fit (`Message::fits`), and with `NoMemory` if
+/// the allocation fails.
 pub fn encode_message(alloc: Global, message: &Message) -> Result<Vec<u8>, EncodeError>
     ensures spells { IfOk result (λ v. Spells v.items message.now) }
     ensures over_limit { IsErrOf result EncodeError.OverLimit ↔ (MessageFits message.now → ⊥) }
 {
-    match message {
-        Message::Block { block, signature } => encode_block(alloc, block, signature),
-        Message::Certificate(certificate) => {
-            if !certificate.fits() {
-                return Err(EncodeError::OverLimit);
-            }
-            Ok(encode_certificate_message(alloc, certificate)?)
-        }
-        Message::Vote(vote) => Ok(encode_vote_message(alloc, vote)?),
+    if !message.fits() {
+        return Err(EncodeError::OverLimit);
     }
+    let text = match message {
+        Message::Block { block, signature } => block.message(alloc, signature),
+        Message::Certificate(certificate) => certificate.message(alloc),
+        Message::Vote(vote) => vote.message(alloc),
+    };
+    Ok(text?)
 }

@@ -23,7 +23,7 @@ mod vote;
 pub use block::{Block, Ref};
 pub use certificate::{Certificate, Seal, Signature};
 pub use decode::decode_message;
-pub use encode::{block_digest, encode_block, encode_body, encode_message};
+pub use encode::{block_digest, encode_body, encode_message};
 pub use error::{DecodeError, EncodeError};
 pub use laws::{body_has_its_size, grammar_or_fault, one_message, trailing_follows_a_message};
 pub use limits::{MAX_PARENTS, MAX_TRANSACTIONS};

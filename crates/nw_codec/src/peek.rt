@@ -1,14 +1,13 @@
 //! Reads the fixed fields at the front of a message's text, and nothing after them.
-ghost use Rattle.std.specs.Prelude.{◌≡◌, ◌≤◌, ◌↔◌, ◌∷◌, Some, length, IfSome, IsSome};
+ghost use Rattle.std.specs.Prelude.{◌≡◌, ◌↔◌, ◌∷◌, Some, IfSome, IsSome};
 ghost use Rattle.nw_codec.specs.declared.message.Message.{Message};
-ghost use Rattle.nw_codec.specs.Parts.{SubjectAt};
 ghost use Rattle.nw_codec.specs.Peek.{peek_of, BeginsWith, HasFront, Peeks};
 ghost use Rattle.nw_codec.specs.Spelled.{Spells};
 
 use crate::Subject;
-use crate::decode::{front, number_of, round_of};
+use crate::decode::{front, number_of, round_of, subject_of};
 use crate::limits::{BLOCK_TAG, CERTIFICATE_TAG, SUBJECT_BYTES, VERSION, VOTE_TAG};
-use nw_digest::{Digest, Round};
+use nw_digest::Round;
 
 /// What the front of a message's text says: the kind of message, and what it is about.
 #[derive(Clone, Copy, Debug, PartialEq, Eq)]
@@ -56,10 +55,7 @@ fn peek_block(text: &[u8]) -> Option<Peek>
     }
     let (author, rest) = number_of(&text[1..]);
     let (round, _) = round_of(rest);
-    Some(Peek::Block {
-        round: Round::new(round).unwrap(),
-        author,
-    })
+    Some(Peek::Block { round, author })
 }
 
 /// What the front of a certificate's text says. The text is given without its tag.
@@ -69,8 +65,8 @@ fn peek_certificate(text: &[u8]) -> Option<Peek>
     if text.len() < SUBJECT_BYTES {
         return None;
     }
-    let (subject, _) = subject_of(text);
-    Some(Peek::Certificate(subject))
+    let (subject, _) = front::<40>(text);
+    Some(Peek::Certificate(subject_of(subject)))
 }
 
 /// What the front of a vote's text says. The text is given without its tag.
@@ -80,23 +76,10 @@ fn peek_vote(text: &[u8]) -> Option<Peek>
     if text.len() < SUBJECT_BYTES + 2 {
         return None;
     }
-    let (subject, rest) = subject_of(text);
+    let (subject, rest) = front::<40>(text);
     let (signer, _) = number_of(rest);
-    Some(Peek::Vote { subject, signer })
-}
-
-/// The subject at the front of the text, and the rest.
-fn subject_of(text: &[u8]) -> (Subject, &[u8])
-    requires { SUBJECT_BYTES ≤ length text.now }
-    ensures { SubjectAt text.now result.0.digest result.0.round result.0.author result.1.now }
-{
-    let (digest, rest) = front::<32>(text);
-    let (round, rest) = round_of(rest);
-    let (author, rest) = number_of(rest);
-    let subject = Subject {
-        digest: Digest(*digest),
-        round: Round::new(round).unwrap(),
-        author,
-    };
-    (subject, rest)
+    Some(Peek::Vote {
+        subject: subject_of(subject),
+        signer,
+    })
 }

@@ -91,8 +91,8 @@ impl Transactions {
         self.text.as_slice()
     }
 
-    /// The size of their encoding in bytes.
-    pub(crate) fn size(&self) -> usize
+    /// The size of their encoding in a body: each takes its bytes, and 4 for its length.
+    pub fn size(&self) -> usize
         ensures size { result ≡ transactions_size self.now }
         ensures low { result < 2 ^ 63 }
     {

@@ -11,9 +11,6 @@ use Rattle.nw_committee.specs.Committee.{AreDistinct, IsEqualSize, IsCommittee, 
 
 -- ---- keys in a list
 
-pub contains_none : (k : Key) → Contains [] k → ⊥
-contains_none k (i, lt, at) = omega arith
-
 -- a key among the first n of a list is at an index below n
 pub contains-take : (xs : List Key) (n : ℕ) (k : Key) → Contains (take n xs) k → (i : ℕ) × (i < n) × (i < length xs) × (get_or xs i k ≡ k)
 contains-take xs n k (i, lt, at) =

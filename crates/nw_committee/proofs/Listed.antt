@@ -1,10 +1,10 @@
 -- The weights of the members that pass a test of their numbers.
-use Rattle.std.proofs.Common.{◌≡◌, ◌∙◌, ℕ, zero, suc, ◌+◌, ◌<◌, ◌≤◌, Bool, true, false, cond, nat_eq, List, [], ◌∷◌, ◌++◌, length, take, get_or, refl, sym, ap, arith}
+use Rattle.std.proofs.Common.{◌≡◌, ◌∙◌, ℕ, zero, suc, ◌+◌, ◌<◌, ◌≤◌, Bool, true, false, Option, cond, nat_eq, List, [], ◌∷◌, ◌++◌, length, map, take, get_or, refl, sym, ap, arith}
 use Rattle.std.specs.Prelude.{◌&&◌, ◌||◌, option_map, unwrap_or, slice_get}
 use Rattle.std.specs.List.{filter, sum_by, enumerate_from}
 use Rattle.std.specs.List.Sorted.{IsStrictlyIncreasing}
 use Rattle.std.proofs.lemmas.Bool.Decides.{nat_tests}
-use Rattle.std.proofs.lemmas.List.{take_more, get_or-take, get_or_default, length-take}
+use Rattle.std.proofs.lemmas.List.{take_more, take_all, get_or-take, get_or_default, get_or-map, length-take, length-map}
 use Rattle.std.proofs.lemmas.List.Folds.{list_any-append, list_any_none}
 use Rattle.std.proofs.lemmas.List.Kept.{AllPairs-from_increasing}
 use Rattle.std.proofs.lemmas.List.Sums.{sum_by-cons}
@@ -156,3 +156,23 @@ listed_weight-none members = weight_where-none (enumerate_from 0 members)
 pub listed_weight-fits : (members : List Member) (listed : List ℕ) (i : ℕ) → IsStrictlyIncreasing listed → i < length listed
     → listed_weight members (take i listed) + weight_at members (get_or listed i 0) ≤ total members
 listed_weight-fits members listed i rising h = omega (arith, listed_weight-more members listed i rising h, listed_weight-le members (take (i + 1) listed))
+
+-- ---- values with numbers
+
+module _ {X : Type 0} (f : X → ℕ) (xs : List X) (i : ℕ) (x : X) (h : i < length xs) (is : x ≡ get_or xs i x) where
+  -- the number at a place is that of the value at the place
+  pub number_at : get_or (map f xs) i 0 ≡ f x
+  number_at = get_or-map f xs i x 0 h ∙ ap f (sym is)
+
+  pub number-within : i < length (map f xs)
+  number-within = omega (arith, length-map xs f)
+
+  -- the weight that was read for the value at a place
+  pub number_weighs : (members : List Member) (number weight : ℕ) (read : Option ℕ) → number ≡ f x → read ≡ option_map (λ m. m.weight) (slice_get members number) → weight ≡ unwrap_or read 0
+      → weight ≡ weight_at members (get_or (map f xs) i 0)
+  number_weighs members number weight read own found is_read =
+      is_read ∙ (ap (λ (o : Option ℕ). unwrap_or o 0) found ∙ ap (weight_at members) (own ∙ sym number_at))
+
+-- the first i numbers of a list with at most i elements are all of them
+pub whole_numbers : {X : Type 0} (f : X → ℕ) (xs : List X) (i : ℕ) → length xs ≤ i → take i (map f xs) ≡ map f xs
+whole_numbers f xs i h = take_all i (map f xs) (omega (arith, length-map xs f))

@@ -1,6 +1,6 @@
 //! Committees.
 ghost use Rattle.std.specs.Prelude.{◌≡◌, ◌↔◌, ◌<◌, ◌^◌};
-ghost use Rattle.std.specs.Prelude.{length, slice_get, vec_len, All, IsTrue, IfOk, OnOk, IsErrOf};
+ghost use Rattle.std.specs.Prelude.{length, map, slice_get, vec_len, All, IsTrue, IfOk, OnOk, IsErrOf};
 ghost use Rattle.std.specs.Option.{option_copied, option_map};
 ghost use Rattle.std.specs.List.Sorted.{IsStrictlyIncreasing};
 ghost use Rattle.nw_committee.specs.Committee.{AreDistinct, IsCommittee, IsSize, IsEqualSize};
@@ -8,7 +8,7 @@ ghost use Rattle.nw_committee.specs.Committee.{IsWeight, ReachesQuorum, keys, eq
 ghost use Rattle.nw_committee.specs.Committee.{listed_weight, total, quorum};
 
 use crate::distinct::are_distinct;
-use crate::{CommitteeFault, Key, Member};
+use crate::{CommitteeFault, Key, Member, Numbered};
 use std::alloc::{AllocError, Global};
 use std::marker::Model;
 
@@ -150,24 +150,24 @@ impl Committee {
             .map(|member| member.weight)
     }
 
-    /// Whether the members with these strictly ascending numbers reach the quorum. A number that no member has adds no weight.
+    /// Whether the listed members reach the quorum. Their numbers must ascend strictly. A number that no member has adds no weight.
     /// Allocates nothing.
-    pub fn reaches_quorum(&self, listed: &[u16]) -> bool
-        requires { IsStrictlyIncreasing listed.now }
-        ensures reached { IsTrue result ↔ ReachesQuorum self.now listed.now }
+    pub fn reaches_quorum<T: Numbered>(&self, listed: &[T]) -> bool
+        requires { IsStrictlyIncreasing (map T.number_of listed.now) }
+        ensures reached { IsTrue result ↔ ReachesQuorum self.now (map T.number_of listed.now) }
         ensures committee { IsCommittee self.now }
     {
         self.listed_weight(listed) >= self.quorum()
     }
 
-    /// The sum of the weights of the members with these strictly ascending numbers. A number that no member has adds no weight.
-    fn listed_weight(&self, listed: &[u16]) -> u32
-        requires { IsStrictlyIncreasing listed.now }
-        ensures { result ≡ listed_weight self.now listed.now }
+    /// The sum of the listed members' weights. Their numbers must ascend strictly. A number that no member has adds no weight.
+    fn listed_weight<T: Numbered>(&self, listed: &[T]) -> u32
+        requires { IsStrictlyIncreasing (map T.number_of listed.now) }
+        ensures { result ≡ listed_weight self.now (map T.number_of listed.now) }
     {
         let mut weight = 0;
-        for number in listed {
-            weight += self.weight(*number).unwrap_or(0);
+        for one in listed {
+            weight += self.weight(one.number()).unwrap_or(0);
         }
         weight
     }

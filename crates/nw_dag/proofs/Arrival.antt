@@ -8,7 +8,7 @@ use Rattle.nw_model.specs.declared.wanted.Wanted.{Wanted}
 use Rattle.nw_waiting.specs.Pairs.{Pairs, Lacks, without_wanted}
 use Rattle.nw_model.specs.State.{State}
 use Rattle.nw_model.specs.Paths.{IsStanding}
-use Rattle.nw_model.proofs.Listed.{contains_cases, contains_first, contains_none}
+use Rattle.nw_digest.proofs.Elements.{contains_cases, contains_first, contains_none}
 use Rattle.nw_state.specs.Standing.{Stands, IsMet, name_of}
 use Rattle.nw_dag.specs.Lacking.{ReferencesParent, IsReady, IsPromoted, AreLacking, AreUnmet, AreUnmetWithout}
 use Rattle.nw_dag.specs.Settled.{AreListed}

@@ -20,9 +20,8 @@ use Rattle.std.proofs.lemmas.Map.Keys.{Less-from_sorted}
 use Rattle.nw_codec.specs.declared.block.Block.{Block}
 use Rattle.nw_digest.specs.declared.digest.Digest.{Digest}
 use Rattle.nw_digest.specs.Order.{digest_cmp}
-use Rattle.nw_model.proofs.Kept.{same_digest}
-use Rattle.nw_model.proofs.Listed.{contains_first, contains_later}
-use Rattle.nw_model.proofs.Maps.{digests_total}
+use Rattle.nw_digest.proofs.Elements.{contains_first, contains_later}
+use Rattle.nw_digest.proofs.Maps.{digests_total, same_digest}
 use Rattle.nw_trie.proofs.Inserts.{sorted_insert}
 
 -- whether two digests have the same bytes

@@ -10,7 +10,7 @@ use Rattle.nw_waiting.specs.Pairs.{Pairs, Lacks}
 use Rattle.nw_model.specs.State.{State}
 use Rattle.nw_model.specs.Paths.{IsStanding}
 use Rattle.nw_model.proofs.Complete.{one_block}
-use Rattle.nw_model.proofs.Listed.{contains_cases, contains_later}
+use Rattle.nw_digest.proofs.Elements.{contains_cases, contains_later}
 use Rattle.nw_state.specs.Standing.{IsMet, name_of}
 use Rattle.nw_dag.specs.Lacking.{ReferencesParent, IsReady, IsPromoted, AreLacking}
 use Rattle.nw_dag.specs.Changes.{Promotes}

@@ -1,10 +1,10 @@
 -- The tables of a store while it collects.
-use Rattle.std.proofs.Common.{◌≡◌, ℕ, ◌+◌, ◌-◌, ◌<◌, ◌≤◌, Bool, true, false, List, [], ◌++◌, filter, length, drop, Option, Some, None, is_some, not, refl, ap, sym, ◌∙◌, subst, arith, inl, inr, length-append}
-use Rattle.std.specs.Prelude.{Contains}
+use Rattle.std.proofs.Common.{◌≡◌, ℕ, ◌+◌, ◌-◌, ◌<◌, ◌≤◌, Bool, true, false, cond, List, [], ◌++◌, filter, length, drop, Option, Some, None, is_some, not, refl, ap, sym, ◌∙◌, subst, arith, inl, inr, length-append}
+use Rattle.std.specs.Prelude.{Contains, nat_le}
 use Rattle.std.specs.Ordering.{eq_by_cmp}
 use Rattle.std.specs.Cmp.{eq_by_cmp_equiv}
 use Rattle.std.specs.FinMap.{FinMap, get, len, entries, keys, len-entries, contains_key-keys}
-use Rattle.std.proofs.lemmas.Bool.{cases_lt}
+use Rattle.std.proofs.lemmas.Bool.{cases_lt, true≢false, not-true}
 use Rattle.std.proofs.lemmas.List.{drop_at, length-map}
 use Rattle.std.proofs.lemmas.List.Elements.{All-contains, All-filter, filter_passes, Contains-append_cases, Contains-append_left, Contains-append_right}
 use Rattle.std.proofs.lemmas.List.Filters.{length-filter_both}
@@ -12,14 +12,16 @@ use Rattle.std.proofs.lemmas.Map.Views.{Contains-from_any, list_any-from_Contain
 use Rattle.nw_digest.specs.declared.digest.Digest.{Digest}
 use Rattle.nw_codec.specs.declared.block.Block.{Block}
 use Rattle.nw_waiting.specs.Pairs.{Pairs}
+use Rattle.nw_waiting.proofs.Members.{IsDistinct-filter}
 use Rattle.nw_digest.specs.Order.{digest_cmp}
 use Rattle.nw_model.specs.State.{State}
-use Rattle.nw_model.specs.Step.{raised}
+use Rattle.nw_model.specs.Step.{raised, collect_reply}
+use Rattle.nw_model.specs.declared.reply.CollectReply.TheVariants as collect
 use Rattle.nw_model.specs.Sound.{IsSound}
 use Rattle.nw_model.proofs.Complete.{one_block}
-use Rattle.nw_model.proofs.Kept.{same_digest}
-use Rattle.nw_model.proofs.Maps.{digests_total}
-use Rattle.nw_model.proofs.Listed.{contains_none}
+use Rattle.nw_digest.proofs.Maps.{digests_total, same_digest}
+use Rattle.nw_digest.proofs.Elements.{contains_none, contains_filter}
+use Rattle.nw_digest.proofs.Found.{which}
 use Rattle.nw_model.proofs.Raised.{was_there, is_kept}
 use Rattle.nw_dag.specs.Lacking.{IsReady}
 use Rattle.nw_dag.specs.Changes.{AppendsThose}
@@ -27,7 +29,6 @@ use Rattle.nw_dag.specs.Frozen.{Grows}
 use Rattle.nw_dag.specs.Settled.{AreListed, HasPendingCount, IsSettling, IsCascading, IsSettled}
 use Rattle.nw_state.specs.Collection.{AreDigestsUpTo}
 use Rattle.nw_dag.specs.Collection.{AreReleased, StandsButLacks, IsCompleteBelow, HasCompleteBelow, IsCollecting}
-use Rattle.nw_state.proofs.Filtered.{filter_was, filter_has, distinct_filter}
 use Rattle.nw_dag.proofs.Listed.{listed_fits, most_left}
 use Rattle.nw_dag.proofs.Lists.{begins_more}
 use Rattle.nw_dag.proofs.Once.{among_or_not, no_longer, once_both, once_keys}
@@ -40,17 +41,6 @@ use Rattle.nw_dag.proofs.Raising.{held_stands, ready_cases, unmet_raised, lackin
 abbrev pub kept : State → List Digest → List Digest
 kept s complete = filter (λ d. is_some (get s.blocks d)) complete
 
-is_held : (found : Option Block) → is_some found ≡ true → (b : Block) × (found ≡ Some b)
-is_held (Some b) e = (b, refl)
-is_held None e = cc
-
-true_false : true ≡ false → ⊥
-true_false e = cc
-
-not_true : (b : Bool) → not b ≡ true → b ≡ false
-not_true true e = absurd cc
-not_true false e = refl
-
 held_is : (found : Option Block) (b : Block) → found ≡ Some b → is_some found ≡ true
 held_is found b e = ap is_some e
 
@@ -60,14 +50,14 @@ module _ (s : State) (round : ℕ) (unmet lacking : Pairs) (complete holders : L
 
   ready_kept : (x : Digest) → IsReady s lacking x → is_some (get t.blocks x) ≡ true → IsReady t lacking x
   ready_kept x ready held =
-      let b = is_held (get t.blocks x) held in
+      let b = which (get t.blocks x) held in
       (held_stands s round sound higher holders are x b.0 b.1 ready.0, ready.1)
 
   -- a listed digest is still ready if its block is held
   pub kept_listed : AreListed t lacking (kept t complete)
   kept_listed = record {
     ready = λ k d lt. ready_kept _ (All-filter (λ d. is_some (get t.blocks d)) (IsReady s lacking) complete settled.listed.ready k d lt) (filter_passes (λ d. is_some (get t.blocks d)) complete k d lt);
-    once = distinct_filter (λ d. is_some (get t.blocks d)) (eq_by_cmp digest_cmp) complete settled.listed.once;
+    once = IsDistinct-filter (eq_by_cmp digest_cmp) (λ d. is_some (get t.blocks d)) complete settled.listed.once;
   }
 
   abbrev gone : List Digest
@@ -76,17 +66,17 @@ module _ (s : State) (round : ℕ) (unmet lacking : Pairs) (complete holders : L
   -- a listed digest is complete below the round if its block is no longer held
   gone_lost : (x : Digest) → Contains gone x → Contains holders x × IsCompleteBelow s lacking round x
   gone_lost x among =
-      let was = filter_was (λ d. not (is_some (get t.blocks d))) complete x among in
+      let was = (contains_filter (λ d. not (is_some (get t.blocks d))) complete x).0 among in
       let ready = All-contains (IsReady s lacking) complete x settled.listed.ready was.0 in
       let b = ready.0.0 in
       let low : b.round < round = elim (cases_lt b.round round) [
         | inl below ↦ below
-        | inr high ↦ absurd (true_false (sym (ap is_some (is_kept (λ (y : Block). y.round) round s.blocks x b ready.0.1.0 high)) ∙ not_true (is_some (get t.blocks x)) was.1))
+        | inr high ↦ absurd (true≢false (sym (ap is_some (is_kept (λ (y : Block). y.round) round s.blocks x b ready.0.1.0 high)) ∙ not-true (is_some (get t.blocks x)) was.1))
       ] in
       (are.blocks x b ready.0.1.0 (omega (arith, low)), (ready, (b, ready.0.1.0, low)))
 
   lost_gone : (x : Digest) → IsCompleteBelow s lacking round x → Contains gone x
-  lost_gone x (ready, (b, at, low)) = filter_has (λ d. not (is_some (get t.blocks d))) complete x (settled.all x ready) (none_held (get t.blocks x) refl)
+  lost_gone x (ready, (b, at, low)) = (contains_filter (λ d. not (is_some (get t.blocks d))) complete x).1 (settled.all x ready, none_held (get t.blocks x) refl)
     where
       none_held : (found : Option Block) → get t.blocks x ≡ found → not (is_some found) ≡ true
       none_held None is = refl
@@ -98,7 +88,7 @@ module _ (s : State) (round : ℕ) (unmet lacking : Pairs) (complete holders : L
   pub kept_count : (lost : ℕ) → HasCompleteBelow s lacking round holders lost → length (kept t complete) + lost ≡ length complete
   kept_count lost (xs, adds, counts) =
       let both = length-filter_both (λ d. is_some (get t.blocks d)) (λ d. not (is_some (get t.blocks d))) (λ d. refl) complete in
-      let once = distinct_filter (λ d. not (is_some (get t.blocks d))) (eq_by_cmp digest_cmp) complete settled.listed.once in
+      let once = IsDistinct-filter (eq_by_cmp digest_cmp) (λ d. not (is_some (get t.blocks d))) complete settled.listed.once in
       let few = no_longer gone adds.added once (λ x among. (adds.exactly x).1 (gone_lost x among)) in
       let many = no_longer adds.added gone adds.once (λ x among. lost_gone x ((adds.exactly x).0 among).1) in
       omega (arith, both, few, many, ap (λ (ys : List Digest). length ys) adds.are, counts)
@@ -109,7 +99,7 @@ module _ (s : State) (round : ℕ) (unmet lacking : Pairs) (complete holders : L
       | inl added ↦ Contains-append_right (kept t complete) adds.added x added
       | inr apart ↦
           let was = ready_cases s round sound higher holders are lacking new without adds.added adds.exactly x ready apart in
-          let here = filter_has (λ d. is_some (get t.blocks d)) complete x (settled.all x was) (held_is (get t.blocks x) ready.0.0 ready.0.1.0) in
+          let here = (contains_filter (λ d. is_some (get t.blocks d)) complete x).1 (settled.all x was, held_is (get t.blocks x) ready.0.0 ready.0.1.0) in
           Contains-append_left (kept t complete) adds.added x here
     ]
 
@@ -137,7 +127,7 @@ lost_fits s lacking round holders lost (xs, adds, counts) =
     sized m = length-map (entries m) (λ (e : Digest × Block). e.0) ∙ sym (len-entries m)
 
     held : (m : FinMap digest_cmp Block) (x : Digest) → Contains (keys m) x → (b : Block) × (get m x ≡ Some b)
-    held m x among = is_held (get m x) (contains_key-keys m x ∙ list_any-from_Contains (eq_by_cmp_equiv digests_total) x (keys m) among)
+    held m x among = which (get m x) (contains_key-keys m x ∙ list_any-from_Contains (eq_by_cmp_equiv digests_total) x (keys m) among)
 
     key : (m : FinMap digest_cmp Block) (x : Digest) (b : Block) → get m x ≡ Some b → Contains (keys m) x
     key m x b at = Contains-from_any same_digest x (keys m) (sym (contains_key-keys m x) ∙ ap is_some at)
@@ -155,6 +145,14 @@ lost_fits s lacking round holders lost (xs, adds, counts) =
       | inl is ↦ let (c, there) = held t.blocks x is in key s.blocks x c (was_there (λ (y : Block). y.round) round s.blocks x c there).0
       | inr lost ↦ let (ready, (b, at, low)) = ((adds.exactly x).0 lost).1 in key s.blocks x b at
     ]
+
+raised_by : (b : Bool) (floor n dropped : ℕ) → cond b (collect.NotHigher floor) (collect.Raised n) ≡ collect.Raised dropped → dropped ≡ n
+raised_by true floor n dropped e = cc
+raised_by false floor n dropped e = cc
+
+-- the number in a reply is the number of dropped blocks
+pub reply_counts : (s : State) (round dropped : ℕ) → collect_reply s round ≡ collect.Raised dropped → dropped ≡ len s.blocks - len (raised s round).blocks
+reply_counts s round dropped is = raised_by (nat_le round s.floor) s.floor (len s.blocks - len (raised s round).blocks) dropped is
 
 -- ---- the same, in terms of the contract
 
@@ -178,8 +176,8 @@ module _ (s : State) (unmet lacking : Pairs) (pending : ℕ) (holders : List Dig
   pub dropped_fits : dropped ≤ pending
   dropped_fits = omega (arith, far.counts, far.settled.counts, counted, fits)
 
-  pub tally_kept : (left : ℕ) → left ≡ pending - dropped → HasPendingCount s lacking [] left
-  tally_kept left is = subst (λ (t : State). HasPendingCount t lacking [] left) (sym far.raised) (record {
+  pub count_kept : (left : ℕ) → left ≡ pending - dropped → HasPendingCount s lacking [] left
+  count_kept left is = subst (λ (t : State). HasPendingCount t lacking [] left) (sym far.raised) (record {
     complete = still;
     listed = listed;
     apart = λ x none. absurd (contains_none x none);

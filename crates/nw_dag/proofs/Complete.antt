@@ -12,7 +12,7 @@ use Rattle.nw_model.specs.State.{State}
 use Rattle.nw_model.specs.Paths.{IsStanding, IsSatisfied, IsComplete}
 use Rattle.nw_model.specs.Sound.{IsSound}
 use Rattle.nw_model.proofs.Complete.{one_block, complete_from_parents, parents_complete}
-use Rattle.nw_model.proofs.Listed.{contains_none}
+use Rattle.nw_digest.proofs.Elements.{contains_none}
 use Rattle.nw_state.specs.Standing.{IsMet}
 use Rattle.nw_dag.specs.Lacking.{IsReady, AreLacking}
 use Rattle.nw_model.specs.Missing.{IsNamedBy}
@@ -21,7 +21,7 @@ use Rattle.nw_model.specs.Missing.{IsNamedBy}
 abbrev pub named_by : ℕ → Ref → Wanted
 named_by round r = record { round = round - 1; author = r.author; digest = r.digest }
 
--- a parent is met exactly if the reference that names it is satisfied
+-- a parent is met exactly when the reference that names it is satisfied
 pub met_from_satisfied : (s : State) (round : ℕ) (r : Ref) (w : Wanted) → IsNamedBy round r w → IsSatisfied s round r → IsMet s w
 met_from_satisfied s round r w (before, author, digest) (p, stands, same, next) =
     (p, subst (λ q. IsStanding s q p) (sym digest) stands, same ∙ sym author, omega (arith, before, next))

@@ -1,10 +1,11 @@
 -- Frozen blocks, and the states that views of them show.
-use Rattle.std.proofs.Common.{◌≡◌, ◌⊎◌, ℕ, Bool, true, false, cond, List, [], ◌∷◌, ◌++◌, Option, Some, None, IsSome, get_or, length, refl, ap, sym, ◌∙◌, subst, arith, inl, inr}
+use Rattle.std.proofs.Common.{◌≡◌, ◌⊎◌, ℕ, List, [], ◌∷◌, ◌++◌, Option, Some, None, get_or, length, refl, ap, sym, ◌∙◌, subst, arith, inl, inr}
 use Rattle.std.specs.Prelude.{Contains}
 use Rattle.std.specs.Option.{option_or}
-use Rattle.std.specs.Ordering.{eq_by_cmp}
-use Rattle.std.specs.FinMap.{FinMap, get, empty, insert, get-empty, get-insert, same_map}
+use Rattle.std.specs.FinMap.{FinMap, get, empty, insert, get-empty, same_map}
 use Rattle.std.proofs.lemmas.List.Elements.{Contains-append_cases, Contains-append_left, Contains-append_right}
+use Rattle.std.proofs.lemmas.Option.{none-some}
+use Rattle.nw_plain.proofs.Freezing.{stays}
 use Rattle.nw_digest.specs.declared.digest.Digest.{Digest}
 use Rattle.nw_codec.specs.declared.block.Block.{Block}
 use Rattle.nw_waiting.specs.Pairs.{Pairs}
@@ -15,10 +16,11 @@ use Rattle.nw_model.specs.Step.{from_round}
 use Rattle.nw_model.specs.Sound.{IsSound}
 use Rattle.nw_model.specs.View.{Frozen, IsClosed, Shows}
 use Rattle.nw_model.proofs.Complete.{one_block, parents_complete}
-use Rattle.nw_model.proofs.Kept.{after_insert, at_insert, same_digest}
-use Rattle.nw_model.proofs.Maps.{digests_apart, digests_total}
+use Rattle.nw_model.proofs.Kept.{after_insert, at_insert}
+use Rattle.nw_digest.proofs.Maps.{digests_apart, digests_total}
 use Rattle.nw_model.proofs.Raised.{is_kept, was_there}
-use Rattle.nw_model.proofs.Listed.{contains_cases, contains_first, contains_none}
+use Rattle.nw_digest.proofs.Elements.{contains_cases, contains_first, contains_none}
+use Rattle.nw_digest.proofs.Found.{which}
 use Rattle.nw_generation.specs.Seen.{IsOverlay}
 use Rattle.nw_state.specs.Standing.{Stands}
 use Rattle.nw_dag.specs.Lacking.{IsReady}
@@ -27,15 +29,12 @@ use Rattle.nw_dag.specs.Frozen.{IsHeldReady, AreHeldUnder, AreFrozen, AreFrozenE
 use Rattle.nw_dag.proofs.Arrival.{Arrives, AreLackingSince, ready_still, ready_was}
 use Rattle.nw_dag.proofs.Complete.{ready_complete}
 
-none_some : {X : Type 0} (x : X) → None ≡ Some x → ⊥
-none_some x e = cc
-
 -- ---- frozen blocks as the store continues
 
 pub frozen_opening : (lacking : Pairs) → AreFrozenExcept opening lacking [] empty
 frozen_opening lacking = record {
-  only = λ d b kept at. absurd (none_some b (sym (get-empty digest_cmp d) ∙ at));
-  each = λ d b kept (ready, at). absurd (none_some b (sym (get-empty digest_cmp d) ∙ at));
+  only = λ d b kept at. absurd (none-some b (sym (get-empty digest_cmp d) ∙ at));
+  each = λ d b kept (ready, at). absurd (none-some b (sym (get-empty digest_cmp d) ∙ at));
 }
 
 -- the frozen blocks stay right if the blocks do not change and each newly ready digest is listed
@@ -130,16 +129,8 @@ over_nothing newer older both none over = same_map digests_total digests_apart b
 
 -- ---- the blocks held under digests
 
--- a value stays if another digest, or the same value, is inserted
-stays : (m : FinMap digest_cmp Block) (k : Digest) (v : Block) (q : Digest) (x : Block) → get m q ≡ Some x → (q ≡ k → v ≡ x) → get (insert m k v) q ≡ Some x
-stays m k v q x at same = get-insert digests_total m k v q ∙ by (eq_by_cmp digest_cmp q k) refl
-  where
-    by : (b : Bool) → eq_by_cmp digest_cmp q k ≡ b → cond b (Some v) (get m q) ≡ Some x
-    by true e = ap Some (same (same_digest q k e))
-    by false e = at
-
 pub held_none : (s : State) → AreHeldUnder s [] empty
-held_none s d b = (λ at. absurd (none_some b (sym (get-empty digest_cmp d) ∙ at)), λ held. absurd (contains_none d held.0))
+held_none s d b = (λ at. absurd (none-some b (sym (get-empty digest_cmp d) ∙ at)), λ held. absurd (contains_none d held.0))
 
 -- one more digest, under which a block is held
 pub held_more : (s : State) (xs : List Digest) (old new : FinMap digest_cmp Block) (d : Digest) (b : Block) → AreHeldUnder s xs old → get s.blocks d ≡ Some b → new ≡ insert old d b → AreHeldUnder s (xs ++ d ∷ []) new
@@ -164,7 +155,7 @@ held_same s xs old new d are lacks same q c = (
   λ (among, held). ap (λ (m : FinMap digest_cmp Block). get m q) same ∙ elim (Contains-append_cases xs (d ∷ []) q among) [
     | inl front ↦ (are q c).1 (front, held)
     | inr behind ↦ elim (contains_cases d [] q behind) [
-      | inl here ↦ absurd (none_some c (sym lacks ∙ ap (get s.blocks) here ∙ held))
+      | inl here ↦ absurd (none-some c (sym lacks ∙ ap (get s.blocks) here ∙ held))
       | inr none ↦ absurd (contains_none q none)
     ]
   ],
@@ -184,10 +175,6 @@ shown s unmet lacking pending v sound settled floor are = record {
       );
 }
 
-is_some_then : {X : Type 0} {found : Option X} → IsSome found → (x : X) × (found ≡ Some x)
-is_some_then {found = Some x} h = (x, refl)
-is_some_then {found = None} h = absurd cc
-
 pub closed : (s : State) (v : Frozen) → IsSound s → Shows v s → IsClosed v
 closed s v sound shows = record {
   parents = λ d b at above.
@@ -203,7 +190,7 @@ closed s v sound shows = record {
       let round : b.round ≡ c.round = ap (λ q. q.0) same in
       let one = (shows.complete d b).0 (at_d, above) in
       let other = (shows.complete e c).0 (at_e, omega (arith, above, round)) in
-      let for_d = is_some_then one.2.stands.1.1 in
-      let for_e = is_some_then other.2.stands.1.1 in
+      let for_d = which (get s.certificates d) one.2.stands.1.1 in
+      let for_e = which (get s.certificates e) other.2.stands.1.1 in
       sound.one_certificate d e for_d.0 for_e.0 for_d.1 for_e.1 (sym (sound.one_slot d b for_d.0 one.0 for_d.1) ∙ same ∙ sound.one_slot e c for_e.0 other.0 for_e.1);
 }

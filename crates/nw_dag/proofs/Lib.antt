@@ -9,7 +9,6 @@ pub mod Once
 pub mod Lists
 pub mod Listed
 pub mod Missing
-pub mod Looks
 pub mod Steps
 pub mod Written
 pub mod Sorted

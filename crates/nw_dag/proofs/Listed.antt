@@ -1,6 +1,6 @@
 -- Lists of ready digests, each listed once.
-use Rattle.std.proofs.Common.{◌≡◌, ℕ, zero, suc, ◌+◌, ◌<◌, ◌≤◌, List, [], ◌∷◌, ◌++◌, length, get_or, Result, Ok, Err, is_ok, cond, is_some, refl, ap, sym, ◌∙◌, subst, arith, inl, inr, append_assoc, append-nil, length-append}
-use Rattle.std.specs.Prelude.{Contains, IsOk, All}
+use Rattle.std.proofs.Common.{◌≡◌, ℕ, zero, suc, ◌+◌, ◌<◌, ◌≤◌, List, [], ◌∷◌, ◌++◌, length, get_or, is_some, refl, ap, sym, ◌∙◌, subst, arith, inl, inr, append_assoc, append-nil, length-append}
+use Rattle.std.specs.Prelude.{Contains, All}
 use Rattle.std.specs.Cmp.{eq_by_cmp_equiv}
 use Rattle.std.specs.FinMap.{entries, keys, len, len-entries, contains_key-keys}
 use Rattle.std.proofs.lemmas.List.{length-map, length_push}
@@ -11,9 +11,8 @@ use Rattle.nw_digest.specs.declared.digest.Digest.{Digest}
 use Rattle.nw_codec.specs.declared.block.Block.{Block}
 use Rattle.nw_waiting.specs.Pairs.{Pairs}
 use Rattle.nw_model.specs.State.{State}
-use Rattle.nw_model.proofs.Kept.{same_digest}
-use Rattle.nw_model.proofs.Maps.{digests_total}
-use Rattle.nw_model.proofs.Listed.{contains_cases, contains_first, contains_none}
+use Rattle.nw_digest.proofs.Maps.{digests_total, same_digest}
+use Rattle.nw_digest.proofs.Elements.{contains_cases, contains_first, contains_none}
 use Rattle.nw_dag.specs.Lacking.{IsReady}
 use Rattle.nw_dag.specs.Changes.{AppendsThose}
 use Rattle.nw_dag.specs.Settled.{AreListed, HasPendingCount}
@@ -46,15 +45,11 @@ listed_one s lacking d ready = record { ready = λ k x lt. subst (IsReady s lack
 
 -- a ready block that is not listed is pending
 pub pending_left : (s : State) (lacking : Pairs) (but : List Digest) (pending : ℕ) (d : Digest) → HasPendingCount s lacking but pending → Contains but d → IsReady s lacking d → 0 < pending
-pending_left s lacking but pending d tally among ready =
+pending_left s lacking but pending d counted among ready =
     let one : AreListed s lacking (d ∷ []) = listed_one s lacking d ready in
-    let all = listed_both s lacking tally.complete (d ∷ []) tally.listed one (λ x is. elim (contains_cases d [] x is) [ inl here ↦ subst (λ y. Contains tally.complete y → ⊥) here (tally.apart d among) | inr none ↦ absurd (contains_none x none) ]) in
-    let few = listed_fits s lacking (tally.complete ++ d ∷ []) all in
-    omega (arith, few, length_push tally.complete d, tally.counts)
-
-pub pushed : {T E : Type 0} (r : Result T E) (items more same : List Digest) → IsOk r → items ≡ cond (is_ok r) more same → items ≡ more
-pushed (Ok x) items more same ok is = is
-pushed (Err e) items more same ok is = cc
+    let all = listed_both s lacking counted.complete (d ∷ []) counted.listed one (λ x is. elim (contains_cases d [] x is) [ inl here ↦ subst (λ y. Contains counted.complete y → ⊥) here (counted.apart d among) | inr none ↦ absurd (contains_none x none) ]) in
+    let few = listed_fits s lacking (counted.complete ++ d ∷ []) all in
+    omega (arith, few, length_push counted.complete d, counted.counts)
 
 -- ---- ready digests
 
@@ -115,16 +110,16 @@ most_left {old = old} adds pending left most = omega (arith, most, ap (λ (xs : 
 -- the next digest is pending if it is ready
 pub pending_next : (s : State) (lacking : Pairs) (digests seen old new : List Digest) (pending left : ℕ) (d : Digest) → HasPendingCount s lacking digests pending → AppendsThose (IsReady s lacking) seen old new → ((x : Digest) → Contains seen x → Contains digests x)
     → length new + left ≡ length old + pending → Contains digests d → (Contains seen d → ⊥) → IsReady s lacking d → 0 < left
-pending_next s lacking digests seen old new pending left d tally adds within most among other ready =
+pending_next s lacking digests seen old new pending left d counted adds within most among other ready =
     pending_left s lacking (d ∷ []) left d (record {
-      complete = tally.complete ++ adds.added;
-      listed = listed_both s lacking tally.complete adds.added tally.listed (record { ready = added_all adds; once = adds.once }) (λ x is. tally.apart x (within x ((adds.exactly x).0 is).0));
+      complete = counted.complete ++ adds.added;
+      listed = listed_both s lacking counted.complete adds.added counted.listed (record { ready = added_all adds; once = adds.once }) (λ x is. counted.apart x (within x ((adds.exactly x).0 is).0));
       apart = λ x is both. elim (contains_cases d [] x is) [
-        | inl here ↦ elim (Contains-append_cases tally.complete adds.added x both) [
-          | inl before ↦ tally.apart d among (subst (Contains tally.complete) (sym here) before)
+        | inl here ↦ elim (Contains-append_cases counted.complete adds.added x both) [
+          | inl before ↦ counted.apart d among (subst (Contains counted.complete) (sym here) before)
           | inr added ↦ other (subst (Contains seen) (sym here) ((adds.exactly x).0 added).0)
         ]
         | inr none ↦ contains_none x none
       ];
-      counts = omega (arith, tally.counts, length-append tally.complete adds.added, most_left adds pending left most);
+      counts = omega (arith, counted.counts, length-append counted.complete adds.added, most_left adds pending left most);
     }) (contains_first d []) ready

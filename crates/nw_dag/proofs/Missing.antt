@@ -1,6 +1,6 @@
 -- The wanted parents are the unmet ones, of all blocks and of one.
 use Rattle.std.proofs.Common.{◌≡◌, ℕ, ◌<◌, ◌≤◌, List, [], arith, sym, subst, inl, inr}
-use Rattle.nw_model.proofs.Listed.{contains_none}
+use Rattle.nw_digest.proofs.Elements.{contains_none}
 use Rattle.std.specs.BTreeSet.{insert_key}
 use Rattle.std.specs.List.Sorted.{IsStrictlySortedBy}
 use Rattle.nw_codec.specs.declared.block.Ref.{Ref}
@@ -9,6 +9,7 @@ use Rattle.nw_waiting.specs.Pairs.{Pairs, AreFirst, AreWanted, WantedCount}
 use Rattle.nw_model.specs.declared.wanted.Wanted.{Wanted}
 use Rattle.nw_model.specs.State.{State}
 use Rattle.nw_model.specs.Missing.{ListsExactly, AreFirstWanted, HasCount, IsNamedBy, IsWanted, Wants, wanted_cmp}
+use Rattle.nw_model.proofs.NoneMissing.{ordered_none}
 use Rattle.nw_plain.specs.Added.{IsUnionWith, NamesMissing}
 use Rattle.nw_plain.proofs.Wanting.{Of, lacks_one, of_references, only_wanted}
 use Rattle.nw_state.specs.Standing.{IsMet}
@@ -54,10 +55,6 @@ met_added s round r parent old named met w = (inl, λ h. elim h [ inl here ↦ h
 -- a set of exactly the parents of the block's unsatisfied references has exactly those that the block wants
 pub all_wanted : (s : State) (b : Block) (missing : List Wanted) → s.floor < b.round → IsUnionWith (Of (NamesMissing s b.round) b.parents) [] missing → IsStrictlySortedBy wanted_cmp missing → ListsExactly wanted_cmp (Wants s b) missing
 all_wanted s b missing above adds sorted = only_wanted s b missing (of_references s b [] missing above adds) sorted
-
-ordered_none : IsStrictlySortedBy wanted_cmp []
-unfolding IsStrictlySortedBy
-ordered_none = tt
 
 -- a block that is not above the garbage round wants no parent
 pub wants_none : (s : State) (b : Block) (missing : List Wanted) → b.round ≤ s.floor → missing ≡ [] → ListsExactly wanted_cmp (Wants s b) missing

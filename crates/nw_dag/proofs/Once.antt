@@ -12,18 +12,11 @@ use Rattle.std.proofs.lemmas.List.Elements.{All-contains, All-from_recursion, Co
 use Rattle.std.proofs.lemmas.Map.Keys.{IsDistinct-head, IsDistinct-tail, IsDistinct-cons, IsDistinct-push}
 use Rattle.std.proofs.lemmas.Map.Made.{length-le_from_is_member}
 use Rattle.std.proofs.lemmas.Map.Views.{Contains-from_any, list_any-from_Contains}
+use Rattle.std.proofs.lemmas.Bool.{true≢false, false_from_ne_true}
 use Rattle.nw_digest.specs.declared.digest.Digest.{Digest}
 use Rattle.nw_digest.specs.Order.{digest_cmp}
-use Rattle.nw_model.proofs.Kept.{same_digest}
-use Rattle.nw_model.proofs.Listed.{contains_cases, contains_first, contains_later, contains_none}
-use Rattle.nw_model.proofs.Maps.{digests_total}
-
-true_false : true ≡ false → ⊥
-true_false e = cc
-
-is_false : (b : Bool) → (b ≡ true → ⊥) → b ≡ false
-is_false true never = absurd (never refl)
-is_false false never = refl
+use Rattle.nw_digest.proofs.Elements.{contains_cases, contains_first, contains_later, contains_none}
+use Rattle.nw_digest.proofs.Maps.{digests_total, same_digest}
 
 abbrev same : Digest → Digest → Bool
 same = eq_by_cmp digest_cmp
@@ -44,15 +37,15 @@ among_or_not xs x = by (list_any (same x) xs) refl
   where
     by : (b : Bool) → list_any (same x) xs ≡ b → Contains xs x ⊎ (Contains xs x → ⊥)
     by true e = inl (Contains-from_any same_digest x xs e)
-    by false e = inr (λ among. true_false (sym (list_any-from_Contains (eq_by_cmp_equiv digests_total) x xs among) ∙ e))
+    by false e = inr (λ among. true≢false (sym (list_any-from_Contains (eq_by_cmp_equiv digests_total) x xs among) ∙ e))
 
 -- the first digest is not among the others
 pub first_once : (x : Digest) (xs : List Digest) → IsOnce (x ∷ xs) → Contains xs x → ⊥
 first_once x xs once among =
-    true_false (sym ((eq_by_cmp_equiv digests_total).refl x) ∙ All-contains (λ y. same x y ≡ false) xs x (All-from_recursion (λ y. same x y ≡ false) xs (IsDistinct-head same x xs once)) among)
+    true≢false (sym ((eq_by_cmp_equiv digests_total).refl x) ∙ All-contains (λ y. same x y ≡ false) xs x (All-from_recursion (λ y. same x y ≡ false) xs (IsDistinct-head same x xs once)) among)
 
 pub once_push : (xs : List Digest) (x : Digest) → IsOnce xs → (Contains xs x → ⊥) → IsOnce (xs ++ x ∷ [])
-once_push xs x once apart = IsDistinct-push (eq_by_cmp_equiv digests_total) xs x once (is_false (list_any (same x) xs) (λ any. apart (Contains-from_any same_digest x xs any)))
+once_push xs x once apart = IsDistinct-push (eq_by_cmp_equiv digests_total) xs x once (false_from_ne_true (list_any (same x) xs) (λ any. apart (Contains-from_any same_digest x xs any)))
 
 -- two lists with no common digest can be joined
 pub once_both : (xs ys : List Digest) → IsOnce xs → IsOnce ys → ((x : Digest) → Contains ys x → Contains xs x → ⊥) → IsOnce (xs ++ ys)

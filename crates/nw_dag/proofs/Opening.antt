@@ -1,8 +1,10 @@
 -- The opening state.
-use Rattle.std.proofs.Common.{◌≡◌, true, false, [], Some, None, sym, ◌∙◌, arith}
+use Rattle.std.proofs.Common.{[], sym, ◌∙◌, arith}
 use Rattle.std.specs.FinMap.{get-empty, len-empty}
 use Rattle.std.specs.FinSet.{empty, contains-empty}
 use Rattle.std.proofs.lemmas.List.Elements.{All-nil}
+use Rattle.std.proofs.lemmas.Option.{none-some}
+use Rattle.std.proofs.lemmas.Bool.{false≢true}
 use Rattle.nw_digest.specs.declared.digest.Digest.{Digest}
 use Rattle.nw_codec.specs.declared.block.Block.{Block}
 use Rattle.nw_waiting.specs.Pairs.{Lacks, pair_cmp}
@@ -13,17 +15,11 @@ use Rattle.nw_dag.specs.Lacking.{ReferencesParent}
 use Rattle.nw_dag.specs.Settled.{IsSettled}
 use Rattle.nw_dag.proofs.Once.{once_none}
 
-none_some : {X : Type 0} (x : X) → None ≡ Some x → ⊥
-none_some x e = cc
-
 names_nothing : (d : Digest) (w : Wanted) → ReferencesParent opening d w → ⊥
-names_nothing d w (b, at, above, among) = none_some b (sym (get-empty digest_cmp d) ∙ at)
+names_nothing d w (b, at, above, among) = none-some b (sym (get-empty digest_cmp d) ∙ at)
 
 lacks_nothing : (d : Digest) (w : Wanted) → Lacks empty d w → ⊥
-lacks_nothing d w lacks = wrong (sym (contains-empty pair_cmp (w, d)) ∙ lacks)
-  where
-    wrong : false ≡ true → ⊥
-    wrong e = cc
+lacks_nothing d w lacks = false≢true (sym (contains-empty pair_cmp (w, d)) ∙ lacks)
 
 pub settled_opening : IsSettled opening empty empty 0
 settled_opening = record {
@@ -35,7 +31,7 @@ settled_opening = record {
       only = λ d w lacks. absurd (lacks_nothing d w lacks);
     };
     listed = record { ready = All-nil _; once = once_none };
-    all = λ d ready. absurd (none_some ready.0.0 (sym (get-empty digest_cmp d) ∙ ready.0.1.0));
+    all = λ d ready. absurd (none-some ready.0.0 (sym (get-empty digest_cmp d) ∙ ready.0.1.0));
   };
   counts = omega (arith, len-empty digest_cmp Block);
 }

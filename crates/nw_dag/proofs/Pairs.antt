@@ -1,5 +1,7 @@
 -- The pairs of a set after a change.
 use Rattle.std.proofs.Common.{◌≡◌, ◌↔◌, ◌⊎◌, Bool, true, false, not, ◌&&◌, ◌||◌, refl, ap, sym, ◌∙◌, subst, inl, inr}
+use Rattle.std.proofs.lemmas.Map.Views.{tells_apart}
+use Rattle.std.proofs.lemmas.Bool.{and_from, and_parts, or_cases, or_right, true≢false}
 use Rattle.std.specs.Ordering.{eq_by_cmp}
 use Rattle.std.specs.Cmp.{eq_by_cmp_equiv}
 use Rattle.std.specs.FinSet.{contains, contains-insert, contains-retain, insert}
@@ -8,39 +10,9 @@ use Rattle.nw_model.specs.declared.wanted.Wanted.{Wanted}
 use Rattle.nw_digest.specs.Order.{digest_cmp}
 use Rattle.nw_waiting.specs.Pairs.{Pair, Pairs, Lacks, pair_cmp, without_holder, without_wanted}
 use Rattle.nw_model.specs.Missing.{wanted_cmp}
-use Rattle.nw_model.proofs.Kept.{tie}
-use Rattle.nw_model.proofs.Maps.{digests_total, digests_apart}
+use Rattle.nw_digest.proofs.Maps.{digests_total, same_digest}
 use Rattle.nw_model.proofs.WantedOrder.{one_wanted, wanted_total}
 use Rattle.nw_waiting.proofs.Orders.{pairs_apart, pairs_total}
-
-one_digest : (c d : Digest) → eq_by_cmp digest_cmp c d ≡ true → c ≡ d
-one_digest c d e = digests_apart c d (tie (digest_cmp c d) e)
-
-one_pair : (p q : Pair) → eq_by_cmp pair_cmp p q ≡ true → p ≡ q
-one_pair p q e = pairs_apart p q (tie (pair_cmp p q) e)
-
-true_false : true ≡ false → ⊥
-true_false e = cc
-
-and_left : (a b : Bool) → (a && b) ≡ true → a ≡ true
-and_left true b e = refl
-and_left false b e = cc
-
-and_right : (a b : Bool) → (a && b) ≡ true → b ≡ true
-and_right true b e = e
-and_right false b e = cc
-
-and_both : (a b : Bool) → a ≡ true → b ≡ true → (a && b) ≡ true
-and_both true b one other = other
-and_both false b one other = cc
-
-or_cases : (a b : Bool) → (a || b) ≡ true → (a ≡ true) ⊎ (b ≡ true)
-or_cases true b e = inl refl
-or_cases false b e = inr e
-
-or_right : (a b : Bool) → b ≡ true → (a || b) ≡ true
-or_right true b e = refl
-or_right false b e = e
 
 not_true : (a : Bool) → (a ≡ true → ⊥) → not a ≡ true
 not_true true never = absurd (never refl)
@@ -55,7 +27,7 @@ true_not false n is = cc
 pub lacks_more : (s : Pairs) (v w : Wanted) (h d : Digest) → Lacks (insert s (v, h)) d w → ((w ≡ v) × (d ≡ h)) ⊎ Lacks s d w
 lacks_more s v w h d lacks =
     elim (or_cases (eq_by_cmp pair_cmp (w, d) (v, h)) (contains s (w, d)) (sym (contains-insert pairs_total s (v, h) (w, d)) ∙ lacks)) [
-      | inl new ↦ let same : ◌≡◌ {A = Pair} (w, d) (v, h) = one_pair (w, d) (v, h) new in inl (ap (λ (p : Pair). p.0) same, ap (λ (p : Pair). p.1) same)
+      | inl new ↦ let same : ◌≡◌ {A = Pair} (w, d) (v, h) = tells_apart pairs_apart (w, d) (v, h) new in inl (ap (λ (p : Pair). p.0) same, ap (λ (p : Pair). p.1) same)
       | inr old ↦ inr old
     ]
 
@@ -77,16 +49,16 @@ pub without_wanted_lacks : (s : Pairs) (v w : Wanted) (d : Digest) → Lacks (wi
 without_wanted_lacks s v w d = (
   λ lacks.
       let both = sym (at_wanted s v w d) ∙ lacks in
-      (and_left (contains s (w, d)) _ both, λ same. true_not (eq_by_cmp wanted_cmp v w) (and_right (contains s (w, d)) _ both) (subst (λ x. eq_by_cmp wanted_cmp v x ≡ true) same ((eq_by_cmp_equiv wanted_total).refl v))),
-  λ (lacks, other). at_wanted s v w d ∙ and_both (contains s (w, d)) (not (eq_by_cmp wanted_cmp v w)) lacks (not_true (eq_by_cmp wanted_cmp v w) (λ e. other (one_wanted v w e))),
+      ((and_parts (contains s (w, d)) _ both).0, λ same. true_not (eq_by_cmp wanted_cmp v w) (and_parts (contains s (w, d)) _ both).1 (subst (λ x. eq_by_cmp wanted_cmp v x ≡ true) same ((eq_by_cmp_equiv wanted_total).refl v))),
+  λ (lacks, other). at_wanted s v w d ∙ and_from (contains s (w, d)) (not (eq_by_cmp wanted_cmp v w)) lacks (not_true (eq_by_cmp wanted_cmp v w) (λ e. other (one_wanted v w e))),
 )
 
 pub without_holder_lacks : (s : Pairs) (h d : Digest) (w : Wanted) → Lacks (without_holder s h) d w ↔ (Lacks s d w × (h ≡ d → ⊥))
 without_holder_lacks s h d w = (
   λ lacks.
       let both = sym (at_holder s w h d) ∙ lacks in
-      (and_left (contains s (w, d)) _ both, λ same. true_not (eq_by_cmp digest_cmp h d) (and_right (contains s (w, d)) _ both) (subst (λ x. eq_by_cmp digest_cmp h x ≡ true) same ((eq_by_cmp_equiv digests_total).refl h))),
-  λ (lacks, other). at_holder s w h d ∙ and_both (contains s (w, d)) (not (eq_by_cmp digest_cmp h d)) lacks (not_true (eq_by_cmp digest_cmp h d) (λ e. other (one_digest h d e))),
+      ((and_parts (contains s (w, d)) _ both).0, λ same. true_not (eq_by_cmp digest_cmp h d) (and_parts (contains s (w, d)) _ both).1 (subst (λ x. eq_by_cmp digest_cmp h x ≡ true) same ((eq_by_cmp_equiv digests_total).refl h))),
+  λ (lacks, other). at_holder s w h d ∙ and_from (contains s (w, d)) (not (eq_by_cmp digest_cmp h d)) lacks (not_true (eq_by_cmp digest_cmp h d) (λ e. other (same_digest h d e))),
 )
 
 -- ---- tests that decide
@@ -96,18 +68,18 @@ lacks_or_not s d w = by (contains s (w, d)) refl
   where
     by : (b : Bool) → contains s (w, d) ≡ b → Lacks s d w ⊎ (Lacks s d w → ⊥)
     by true e = inl e
-    by false e = inr (λ is. true_false (sym is ∙ e))
+    by false e = inr (λ is. true≢false (sym is ∙ e))
 
 pub same_or_not : (c d : Digest) → (c ≡ d) ⊎ (c ≡ d → ⊥)
 same_or_not c d = by (eq_by_cmp digest_cmp c d) refl
   where
     by : (b : Bool) → eq_by_cmp digest_cmp c d ≡ b → (c ≡ d) ⊎ (c ≡ d → ⊥)
-    by true e = inl (one_digest c d e)
-    by false e = inr (λ same. true_false (sym (subst (λ x. eq_by_cmp digest_cmp c x ≡ true) same ((eq_by_cmp_equiv digests_total).refl c)) ∙ e))
+    by true e = inl (same_digest c d e)
+    by false e = inr (λ same. true≢false (sym (subst (λ x. eq_by_cmp digest_cmp c x ≡ true) same ((eq_by_cmp_equiv digests_total).refl c)) ∙ e))
 
 pub wanted_or_not : (v w : Wanted) → (v ≡ w) ⊎ (v ≡ w → ⊥)
 wanted_or_not v w = by (eq_by_cmp wanted_cmp v w) refl
   where
     by : (b : Bool) → eq_by_cmp wanted_cmp v w ≡ b → (v ≡ w) ⊎ (v ≡ w → ⊥)
     by true e = inl (one_wanted v w e)
-    by false e = inr (λ same. true_false (sym (subst (λ x. eq_by_cmp wanted_cmp v x ≡ true) same ((eq_by_cmp_equiv wanted_total).refl v)) ∙ e))
+    by false e = inr (λ same. true≢false (sym (subst (λ x. eq_by_cmp wanted_cmp v x ≡ true) same ((eq_by_cmp_equiv wanted_total).refl v)) ∙ e))

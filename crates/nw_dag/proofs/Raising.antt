@@ -1,5 +1,5 @@
 -- The parents that blocks lack after a collection.
-use Rattle.std.proofs.Common.{◌≡◌, ◌↔◌, ◌⊎◌, ℕ, ◌<◌, ◌≤◌, List, [], Option, Some, None, IsSome, refl, ap, sym, subst, arith, inl, inr}
+use Rattle.std.proofs.Common.{◌≡◌, ◌↔◌, ◌⊎◌, ℕ, ◌<◌, ◌≤◌, List, [], Some, IsSome, ap, arith, inl, inr}
 use Rattle.std.specs.Prelude.{Contains}
 use Rattle.std.specs.FinMap.{get}
 use Rattle.std.proofs.lemmas.Bool.{cases_lt}
@@ -15,18 +15,12 @@ use Rattle.nw_model.specs.Sound.{IsSound}
 use Rattle.nw_model.specs.Paths.{IsStanding}
 use Rattle.nw_model.proofs.Raised.{was_there, is_kept}
 use Rattle.nw_model.proofs.Complete.{one_block}
-use Rattle.nw_model.proofs.Listed.{contains_none}
+use Rattle.nw_digest.proofs.Elements.{contains_none}
+use Rattle.nw_digest.proofs.Found.{which, is_there}
 use Rattle.nw_state.specs.Standing.{Stands, IsMet}
 use Rattle.nw_dag.specs.Lacking.{ReferencesParent, IsReady, IsPromoted, AreLacking, AreUnmet}
 use Rattle.nw_state.specs.Collection.{AreDigestsUpTo}
 use Rattle.nw_dag.specs.Collection.{AreReleased, StandsButLacks}
-
-some_certificate : (found : Option Certificate) → IsSome found → (c : Certificate) × (found ≡ Some c)
-some_certificate (Some c) h = (c, refl)
-some_certificate None h = absurd cc
-
-is_there : (found : Option Certificate) (c : Certificate) → found ≡ Some c → IsSome found
-is_there found c e = subst IsSome (sym e) refl
 
 module _ (s : State) (round : ℕ) (sound : IsSound s) (higher : s.floor < round) (holders : List Digest) (are : AreDigestsUpTo s round holders) where
   abbrev t : State
@@ -37,7 +31,7 @@ module _ (s : State) (round : ℕ) (sound : IsSound s) (higher : s.floor < round
 
   was_certified : (d : Digest) → IsSome (get t.certificates d) → IsSome (get s.certificates d)
   was_certified d some =
-      let c = some_certificate (get t.certificates d) some in
+      let c = which (get t.certificates d) some in
       is_there (get s.certificates d) c.0 (was_there (λ (x : Certificate). x.round) round s.certificates d c.0 c.1).0
 
   -- a digest that stands now stood before
@@ -47,7 +41,7 @@ module _ (s : State) (round : ℕ) (sound : IsSound s) (higher : s.floor < round
   -- a digest that stood still stands, if its block is not below the round
   pub still_stands : (d : Digest) (b : Block) → IsStanding s d b → round ≤ b.round → IsStanding t d b
   still_stands d b stands high =
-      let c = some_certificate (get s.certificates d) stands.1 in
+      let c = which (get s.certificates d) stands.1 in
       let same : b.round ≡ c.0.round = ap (λ (slot : Slot). slot.0) (sound.one_slot d b c.0 stands.0 c.1) in (
         is_kept (λ (x : Block). x.round) round s.blocks d b stands.0 high,
         is_there (get t.certificates d) c.0 (is_kept (λ (x : Certificate). x.round) round s.certificates d c.0 c.1 (omega (arith, same, high))),

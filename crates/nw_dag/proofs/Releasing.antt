@@ -1,5 +1,5 @@
 -- Holders that are released: they lack nothing from then on.
-use Rattle.std.proofs.Common.{◌≡◌, ℕ, ◌+◌, ◌<◌, List, [], ◌∷◌, ◌++◌, length, get_or, take, true, false, ap, sym, ◌∙◌, subst, arith, inl, inr, length-append, length-take}
+use Rattle.std.proofs.Common.{◌≡◌, ℕ, ◌+◌, ◌<◌, List, [], ◌∷◌, ◌++◌, length, get_or, take, ap, sym, ◌∙◌, subst, arith, inl, inr, length-append, length-take}
 use Rattle.std.specs.Prelude.{Contains}
 use Rattle.std.specs.List.{IsDistinct}
 use Rattle.std.specs.Ordering.{eq_by_cmp}
@@ -7,12 +7,13 @@ use Rattle.std.specs.Cmp.{eq_by_cmp_equiv}
 use Rattle.std.proofs.lemmas.List.{get_or-take, get_or_default}
 use Rattle.std.proofs.lemmas.List.Elements.{All-weaker, All-contains, Contains-push_cases, Contains-append_left, Contains-push, Contains-get_or}
 use Rattle.std.proofs.lemmas.Map.Keys.{apart_from_distinct}
+use Rattle.std.proofs.lemmas.Bool.{true≢false}
 use Rattle.nw_digest.specs.declared.digest.Digest.{Digest}
 use Rattle.nw_waiting.specs.Pairs.{Pairs, Lacks, without_holder}
 use Rattle.nw_digest.specs.Order.{digest_cmp}
 use Rattle.nw_model.specs.State.{State}
-use Rattle.nw_model.proofs.Listed.{contains_cases, contains_first, contains_none}
-use Rattle.nw_model.proofs.Maps.{digests_total}
+use Rattle.nw_digest.proofs.Elements.{contains_cases, contains_first, contains_none}
+use Rattle.nw_digest.proofs.Maps.{digests_total}
 use Rattle.nw_dag.specs.Lacking.{LacksNothing, LacksSomething, IsReady}
 use Rattle.nw_dag.specs.Changes.{AppendsThose}
 use Rattle.nw_dag.specs.Settled.{AreListed, HasPendingCount}
@@ -78,10 +79,7 @@ not_before xs i d lt once (k, below, at) =
     let differ = apart_from_distinct (eq_by_cmp digest_cmp) xs k i x once short lt in
     let at_k : get_or xs k x ≡ x = sym (get_or-take i xs k x short) ∙ at in
     let at_i : get_or xs i x ≡ x = get_or_default xs i x d lt in
-    wrong (sym ((eq_by_cmp_equiv digests_total).refl x) ∙ ap (λ y. eq_by_cmp digest_cmp y x) (sym at_k) ∙ ap (eq_by_cmp digest_cmp (get_or xs k x)) (sym at_i) ∙ differ)
-  where
-    wrong : true ≡ false → ⊥
-    wrong e = cc
+    true≢false (sym ((eq_by_cmp_equiv digests_total).refl x) ∙ ap (λ y. eq_by_cmp digest_cmp y x) (sym at_k) ∙ ap (eq_by_cmp digest_cmp (get_or xs k x)) (sym at_i) ∙ differ)
 
 -- releasing other holders does not change what the next one lacks
 pub stuck_more : (s : State) (holders : List Digest) (d : Digest) (old mid : Pairs) (a b c : List Digest) → AreReleased holders old mid → (Contains holders d → ⊥) → AppendsThose (StandsButLacks s old) holders a b
@@ -105,14 +103,14 @@ stuck_more s holders d old mid a b c without apart adds last = adds_more (Stands
 
 -- a holder that lacked a parent is pending
 pub stuck_pending : (s : State) (old new : Pairs) (holder : Digest) (pending : ℕ) → new ≡ without_holder old holder → LacksSomething old holder → HasPendingCount s old [] pending → IsReady s new holder → 0 < pending
-stuck_pending s old new holder pending is lacks tally ready = pending_left s new (holder ∷ []) pending holder (record {
-  complete = tally.complete;
-  listed = listed_without s old new holder tally.complete is tally.listed;
+stuck_pending s old new holder pending is lacks counted ready = pending_left s new (holder ∷ []) pending holder (record {
+  complete = counted.complete;
+  listed = listed_without s old new holder counted.complete is counted.listed;
   apart = λ x among. elim (contains_cases holder [] x among) [
-    | inl same ↦ subst (λ y. Contains tally.complete y → ⊥) same (lacking_apart s old tally.complete holder tally.listed lacks)
+    | inl same ↦ subst (λ y. Contains counted.complete y → ⊥) same (lacking_apart s old counted.complete holder counted.listed lacks)
     | inr none ↦ absurd (contains_none x none)
   ];
-  counts = tally.counts;
+  counts = counted.counts;
 }) (contains_first holder []) ready
 
 module _ (s : State) (old new : Pairs) (holders complete fresh more : List Digest) (without : AreReleased holders old new) (adds : AppendsThose (StandsButLacks s old) holders fresh more) (listed : AreListed s old complete) where
@@ -129,10 +127,10 @@ module _ (s : State) (old new : Pairs) (holders complete fresh more : List Diges
       (record { ready = λ k d lt. freed (get_or adds.added k d) (Contains-get_or adds.added k d lt); once = adds.once })
       (λ x among before. let lacks = ((adds.exactly x).0 among).1.1 in (All-contains (IsReady s old) complete x listed.ready before).1 lacks.0 lacks.1)
 
-pub tally_released : (s : State) (old new : Pairs) (holders fresh more : List Digest) (pending left : ℕ) → AreReleased holders old new → AppendsThose (StandsButLacks s old) holders fresh more → length more + left ≡ length fresh + pending → HasPendingCount s old [] pending → HasPendingCount s new [] left
-tally_released s old new holders fresh more pending left without adds most tally = record {
-  complete = tally.complete ++ adds.added;
-  listed = released s old new holders tally.complete fresh more without adds tally.listed;
+pub count_released : (s : State) (old new : Pairs) (holders fresh more : List Digest) (pending left : ℕ) → AreReleased holders old new → AppendsThose (StandsButLacks s old) holders fresh more → length more + left ≡ length fresh + pending → HasPendingCount s old [] pending → HasPendingCount s new [] left
+count_released s old new holders fresh more pending left without adds most counted = record {
+  complete = counted.complete ++ adds.added;
+  listed = released s old new holders counted.complete fresh more without adds counted.listed;
   apart = λ x none. absurd (contains_none x none);
-  counts = omega (arith, tally.counts, length-append tally.complete adds.added, most_left adds pending left most);
+  counts = omega (arith, counted.counts, length-append counted.complete adds.added, most_left adds pending left most);
 }

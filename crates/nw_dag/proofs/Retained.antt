@@ -1,12 +1,10 @@
 -- The rest of a list after `retain` with a closure.
 use Rattle.std.proofs.Common.{◌≡◌, ◌↔◌, Bool, true, false, List, [], ◌∷◌, length, refl, subst, sym, arith, inl, inr}
+use Rattle.std.proofs.lemmas.Bool.{false≢true}
 use Rattle.std.specs.Prelude.{Contains}
 use Rattle.std.specs.List.{items_where_true}
 use Rattle.std.specs.List.Retain.{ReturnsInTurn, IsFiltered}
-use Rattle.nw_model.proofs.Listed.{contains_cases, contains_first, contains_later, contains_none}
-
-false_true : false ≡ true → ⊥
-false_true e = cc
+use Rattle.nw_digest.proofs.Elements.{contains_cases, contains_first, contains_later, contains_none}
 
 module _ {X F : Type 0} (R : F → X → Bool → F → Type 0) (P : X → Type 0) (f : F) (h : (x : X) (b : Bool) (g : F) → R f x b g → ((b ≡ true) ↔ P x) × (g ≡ f)) where
   told : (bs : List Bool) (xs : List X) (q : F) → length bs ≡ length xs → ReturnsInTurn R f bs xs q → (x : X) → Contains (items_where_true bs xs) x ↔ (Contains xs x × P x)
@@ -31,7 +29,7 @@ module _ {X F : Type 0} (R : F → X → Bool → F → Type 0) (P : X → Type 
       by false is rest = (
         λ among. let both = rest.0 among in (contains_later y ys x both.0, both.1),
         λ both. elim (contains_cases y ys x both.0) [
-          | inl same ↦ absurd (false_true (is.1 (subst P (sym same) both.1)))
+          | inl same ↦ absurd (false≢true (is.1 (subst P (sym same) both.1)))
           | inr later ↦ rest.1 (later, both.1)
         ],
       )

@@ -12,13 +12,13 @@ use Rattle.std.proofs.lemmas.List.{length-map}
 use Rattle.std.proofs.lemmas.List.Elements.{All-from_recursion, All-contains}
 use Rattle.std.proofs.lemmas.Map.Keys.{IsDistinct-head, IsDistinct-tail}
 use Rattle.std.proofs.lemmas.Map.Views.{Contains-keys_from_lookup, IsSome-lookup_from_Contains}
+use Rattle.std.proofs.lemmas.Bool.{true≢false}
 use Rattle.nw_digest.specs.declared.digest.Digest.{Digest}
 use Rattle.nw_trie.proofs.Inserts.{sorted_insert}
 use Rattle.nw_digest.specs.Order.{digest_cmp}
 use Rattle.nw_model.specs.Missing.{HasCount}
-use Rattle.nw_model.proofs.Kept.{same_digest}
-use Rattle.nw_model.proofs.Listed.{contains_cases, contains_first, contains_later}
-use Rattle.nw_model.proofs.Maps.{digests_total, digests_apart, lookup_put, put_entries, get_lookup, len_sorted}
+use Rattle.nw_digest.proofs.Elements.{contains_cases, contains_first, contains_later}
+use Rattle.nw_digest.proofs.Maps.{digests_total, digests_apart, lookup_put, put_entries, get_lookup, len_sorted, same_digest}
 use Rattle.nw_state.proofs.Opening.{ordered_none}
 
 -- the digests of the list, as the keys of sorted entries
@@ -72,14 +72,11 @@ one_more d xs apart o =
           ∙ add-one (length xs);
     }
 
-true_false : true ≡ false → ⊥
-true_false e = cc
-
 in_order : (xs : List Digest) → IsDistinct (eq_by_cmp digest_cmp) xs → InOrder xs
 in_order [] once = record { entries = []; sorted = ordered_none; exactly = λ x. (λ among. among, λ among. among); counts = refl }
 in_order (d ∷ xs) once =
     let others = All-from_recursion (λ y. eq_by_cmp digest_cmp d y ≡ false) xs (IsDistinct-head (eq_by_cmp digest_cmp) d xs once) in
-    one_more d xs (λ among. true_false (sym ((eq_by_cmp_equiv digests_total).refl d) ∙ All-contains (λ y. eq_by_cmp digest_cmp d y ≡ false) xs d others among))
+    one_more d xs (λ among. true≢false (sym ((eq_by_cmp_equiv digests_total).refl d) ∙ All-contains (λ y. eq_by_cmp digest_cmp d y ≡ false) xs d others among))
     (in_order xs (IsDistinct-tail (eq_by_cmp digest_cmp) d xs once))
 
 -- the number of digests with P is the length of a list of them without repetition

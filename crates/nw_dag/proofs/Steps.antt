@@ -1,5 +1,5 @@
 -- The tables, from one step of the cascade to the next.
-use Rattle.std.proofs.Common.{◌≡◌, ◌⊎◌, ℕ, ◌+◌, ◌-◌, ◌<◌, ◌≤◌, List, [], ◌∷◌, ◌++◌, length, get_or, drop, Option, Some, None, refl, ap, sym, ◌∙◌, subst, arith, inl, inr, append_assoc, length-append}
+use Rattle.std.proofs.Common.{◌≡◌, ℕ, ◌+◌, ◌-◌, ◌<◌, ◌≤◌, List, [], ◌∷◌, ◌++◌, length, get_or, drop, Option, Some, None, refl, ap, sym, ◌∙◌, subst, arith, inl, inr, append_assoc, length-append}
 use Rattle.std.specs.Prelude.{Contains}
 use Rattle.std.specs.Option.{option_map}
 use Rattle.std.specs.FinMap.{get}
@@ -10,7 +10,7 @@ use Rattle.nw_codec.specs.declared.block.Block.{Block}
 use Rattle.nw_model.specs.declared.wanted.Wanted.{Wanted}
 use Rattle.nw_waiting.specs.Pairs.{Pairs, Lacks, AreHolders, without_wanted}
 use Rattle.nw_model.specs.State.{State}
-use Rattle.nw_model.proofs.Listed.{contains_cases, contains_first, contains_none}
+use Rattle.nw_digest.proofs.Elements.{contains_cases, contains_first, contains_none}
 use Rattle.nw_state.specs.Standing.{IsMet, Stands, name_of}
 use Rattle.nw_dag.specs.Lacking.{IsReady, AreUnmet, AreUnmetWithout}
 use Rattle.nw_dag.specs.Changes.{AppendsThose, Promotes}
@@ -65,18 +65,18 @@ promotes s e old new v complete more holders name are is adds =
     }
 
 -- the holders that lacked the promoted block are not listed
-pub tally_fewer : (s : State) (old new : Pairs) (v : Wanted) (pending : ℕ) (holders : List Digest) → new ≡ without_wanted old v → AreHolders old v holders → HasPendingCount s old [] pending → HasPendingCount s new holders pending
-tally_fewer s old new v pending holders is are tally = record {
-  complete = tally.complete;
-  listed = listed_fewer s old new v tally.complete is tally.listed;
-  apart = holders_apart s old v tally.complete holders tally.listed are;
-  counts = tally.counts;
+pub count_fewer : (s : State) (old new : Pairs) (v : Wanted) (pending : ℕ) (holders : List Digest) → new ≡ without_wanted old v → AreHolders old v holders → HasPendingCount s old [] pending → HasPendingCount s new holders pending
+count_fewer s old new v pending holders is are counted = record {
+  complete = counted.complete;
+  listed = listed_fewer s old new v counted.complete is counted.listed;
+  apart = holders_apart s old v counted.complete holders counted.listed are;
+  counts = counted.counts;
 }
 
 -- ---- one place of the list
 
-pub tally_of : (s : State) (unmet lacking : Pairs) (due : List Digest) (pending : ℕ) → IsCascading s unmet lacking due pending → HasPendingCount s lacking [] pending
-tally_of s unmet lacking due pending far = record { complete = far.front ++ due; listed = far.settling.listed; apart = λ x none. absurd (contains_none x none); counts = far.counts }
+pub count_of : (s : State) (unmet lacking : Pairs) (due : List Digest) (pending : ℕ) → IsCascading s unmet lacking due pending → HasPendingCount s lacking [] pending
+count_of s unmet lacking due pending far = record { complete = far.front ++ due; listed = far.settling.listed; apart = λ x none. absurd (contains_none x none); counts = far.counts }
 
 pub stands_at : (s : State) (unmet lacking : Pairs) (fresh : List Digest) (pending place : ℕ) (d : Digest) → IsCascading s unmet lacking (drop place fresh) pending → place < length fresh → Stands s (get_or fresh place d)
 stands_at s unmet lacking fresh pending place d far lt =
@@ -124,13 +124,6 @@ module _ (s : State) (unmet old new : Pairs) (e : Digest) (rest fresh more : Lis
     });
     counts = omega (arith, far.counts, ap (λ (xs : List Digest). length xs) longer, length-append was step.added, ap (λ (xs : List Digest). length xs) step.are, length-append fresh step.added, most);
   }
-
-  -- a digest that is ready now was ready before, or is listed
-  pub ready_cases : (x : Digest) → IsReady s new x → IsReady s old x ⊎ Contains more x
-  ready_cases x ready = elim (lacks_or_not old x (name_of e step.block)) [
-    | inl lacked ↦ inr (subst (λ xs. Contains xs x) (sym step.are) (Contains-append_right fresh step.added x ((step.exactly x).1 (lacked, ready))))
-    | inr never ↦ inl (ready_before s old new (name_of e step.block) step.lost x ready never)
-  ]
 
 pub cascaded : (s : State) (unmet met old new : Pairs) (fresh more : List Digest) (pending left place : ℕ) (d : Digest) → IsCascading s unmet old (drop place fresh) pending → place < length fresh → met ≡ unmet
     → Promotes s (get_or fresh place d) old new fresh more → length more + left ≡ length fresh + pending → IsCascading s met new (drop (place + 1) more) left

@@ -8,7 +8,7 @@ use Rattle.nw_codec.specs.declared.block.Ref.{Ref}
 use Rattle.nw_model.specs.declared.wanted.Wanted.{Wanted}
 use Rattle.nw_waiting.specs.Pairs.{Pairs, Lacks, LacksCount}
 use Rattle.nw_model.specs.State.{State}
-use Rattle.nw_model.proofs.Listed.{contains_first, contains_none}
+use Rattle.nw_digest.proofs.Elements.{contains_first, contains_none}
 use Rattle.nw_state.specs.Standing.{Stands, IsMet}
 use Rattle.nw_dag.specs.Lacking.{AreSplit, IsNamedAmong, LacksNothing, LacksSomething, IsReady}
 use Rattle.nw_model.specs.Missing.{IsNamedBy}
@@ -18,7 +18,7 @@ use Rattle.nw_dag.proofs.Pairs.{lacks_more, lacks_new, lacks_still}
 
 -- ---- counts
 
--- no parent is lacked exactly if the count is 0
+-- no parent is lacked exactly when the count is 0
 pub lacks_zero : (pairs : Pairs) (d : Digest) (n : ℕ) → LacksCount pairs d n → IsTrue (nat_eq n 0) ↔ LacksNothing pairs d
 lacks_zero pairs d n (all, are, counts) = (
   λ zero w lacks. none all (counts ∙ nothing n zero) w ((are.exactly w).1 lacks),

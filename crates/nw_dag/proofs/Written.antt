@@ -1,5 +1,5 @@
 -- The tables after a block or a certificate is added.
-use Rattle.std.proofs.Common.{◌≡◌, ◌⊎◌, ℕ, ◌+◌, ◌<◌, Bool, true, false, List, [], Option, Some, None, IsSome, is_some, cond, refl, ap, sym, ◌∙◌, subst, arith, inl, inr}
+use Rattle.std.proofs.Common.{◌≡◌, ◌⊎◌, ℕ, ◌+◌, ◌<◌, Bool, true, false, List, [], Some, None, IsSome, is_some, cond, refl, ap, sym, ◌∙◌, subst, arith, inl, inr}
 use Rattle.std.specs.Ordering.{eq_by_cmp}
 use Rattle.std.specs.FinMap.{FinMap, get, insert, len, get-insert, len-insert}
 use Rattle.std.specs.FinSet.{contains, same_set}
@@ -10,12 +10,11 @@ use Rattle.nw_model.specs.declared.wanted.Wanted.{Wanted}
 use Rattle.nw_waiting.specs.Pairs.{Pairs, Lacks, without_holder, without_wanted}
 use Rattle.nw_digest.specs.Order.{digest_cmp}
 use Rattle.nw_model.specs.State.{State}
-use Rattle.nw_model.specs.Step.{Bounds, certify_reply, with_block, with_certificate}
-use Rattle.nw_model.specs.declared.reply.CertifyReply.TheVariants as certify
-use Rattle.nw_model.proofs.Kept.{after_insert, at_insert, same_digest}
-use Rattle.nw_model.proofs.Listed.{contains_none}
-use Rattle.nw_model.proofs.Maps.{digests_total}
-use Rattle.nw_model.proofs.Replayed.{past, is_certified}
+use Rattle.nw_model.specs.Step.{with_block, with_certificate}
+use Rattle.nw_model.proofs.Kept.{after_insert, at_insert, some_none}
+use Rattle.nw_digest.proofs.Elements.{contains_none}
+use Rattle.nw_digest.proofs.Maps.{digests_total, same_digest}
+use Rattle.nw_digest.proofs.Found.{not_there}
 use Rattle.nw_state.specs.Standing.{IsMet}
 use Rattle.nw_dag.specs.Lacking.{ReferencesParent, IsNamedAmong, IsReady, AreSplit, AreUnmet, AreLacking}
 use Rattle.nw_dag.specs.Changes.{AreSameExcept, LacksAlso}
@@ -23,13 +22,6 @@ use Rattle.nw_dag.specs.Settled.{IsSettling, IsSettled, IsSettledWithout}
 use Rattle.nw_waiting.proofs.Orders.{pairs_apart, pairs_total}
 use Rattle.nw_dag.proofs.Pairs.{without_holder_lacks, without_wanted_lacks}
 use Rattle.nw_dag.proofs.Arrival.{Arrives, AreLackingSince, arrived, listed_arrived, listed_apart, ready_was, unmet_arrived}
-
-some_none : {X : Type 0} (x : X) → Some x ≡ None → ⊥
-some_none x e = cc
-
-pub none_is : {X : Type 0} (found : Option X) → found ≡ None → IsSome found → ⊥
-none_is (Some x) e some = some_none x e
-none_is None e some = cc
 
 -- other digests keep their values
 pub get_other : {X : Type 0} (m : FinMap digest_cmp X) (k : Digest) (v : X) (q : Digest) → (q ≡ k → ⊥) → get (insert m k v) q ≡ get m q
@@ -47,9 +39,6 @@ module _ (s : State) (d : Digest) (b : Block) (vote : Bool) (absent : get s.bloc
 
   abbrev named : Wanted → Type 0
   named w = (s.floor < b.round) × IsNamedAmong b.round b.parents w
-
-  nobody : (w : Wanted) → ReferencesParent s d w → ⊥
-  nobody w (x, at, above, among) = some_none x (sym at ∙ absent)
 
   pub block_arrives : Arrives s t d
   block_arrives = record {
@@ -123,7 +112,7 @@ module _ (s : State) (d : Digest) (b : Block) (vote : Bool) (absent : get s.bloc
 module _ (s : State) (c : Certificate) (absent : get s.certificates c.digest ≡ None) where
   pub certificate_arrives : Arrives s (with_certificate s c) c.digest
   certificate_arrives = record {
-    absent = λ (x, stands). none_is (get s.certificates c.digest) absent stands.1;
+    absent = λ (x, stands). not_there (get s.certificates c.digest) absent stands.1;
     others = λ x y other. (
       λ stands. (stands.0, subst IsSome (get_other s.certificates c.digest c x other) stands.1),
       λ stands. (stands.0, subst IsSome (sym (get_other s.certificates c.digest c x other)) stands.1),
@@ -192,15 +181,3 @@ nothing_lacking s d lacking absent are w lacks = let names = (are.only d w lacks
 -- recording what the holder lacks changes only the holder's pairs
 pub wants_same : (Q P : Wanted → Type 0) (holder : Digest) (old new : Pairs) → LacksAlso Q P holder old new → AreSameExcept holder old new
 wants_same Q P holder old new wants h w other = (λ lacks. elim (wants.only h w lacks) [ inl was ↦ was | inr (here, name, none) ↦ absurd (other here) ], λ lacks. wants.still h w lacks)
-
-nothing : (found : Option Certificate) → is_some found ≡ false → found ≡ None
-nothing None e = refl
-nothing (Some c) e = absurd cc
-
--- a certificate is kept only if its digest is not certified
-pub certified_anew : (bounds : Bounds) (s : State) (c : Certificate) → certify_reply bounds s c ≡ certify.Certified → get s.certificates c.digest ≡ None
-certified_anew bounds s c is =
-    let low = past is_certified _ (certify.Collected s.floor) _ certify.Certified refl refl is in
-    let far = past is_certified _ certify.TooFar _ certify.Certified refl refl low.1 in
-    let already = past is_certified _ certify.Already _ certify.Certified refl refl far.1 in
-    nothing (get s.certificates c.digest) (past is_certified (is_some (get s.certificates c.digest)) certify.Misfit _ certify.Certified refl refl already.1).0

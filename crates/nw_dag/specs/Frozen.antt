@@ -47,7 +47,7 @@ pub record Grows (s : State) (P : Digest → Type 0) (old new : Pairs) (fresh mo
   pub listed : (d : Digest) → IsReady s new d → P d ⊎ Contains more d
 
 -- the invariant of the tables of a store, which holds between two calls
-pub record AreTables (s : State) (unmet lacking : Pairs) (fresh : List Digest) (pending : ℕ) (blocks : FinMap digest_cmp Block) : Type 0 where
+pub record IsDag (s : State) (unmet lacking : Pairs) (fresh : List Digest) (pending : ℕ) (blocks : FinMap digest_cmp Block) : Type 0 where
   -- the two sets and the number of pending blocks are right
   pub settled : IsSettled s unmet lacking pending
   -- each complete block is frozen or fresh

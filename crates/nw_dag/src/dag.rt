@@ -43,7 +43,7 @@ pub struct Dag {
 
 impl Model for Dag {
     ghost use Rattle.nw_model.specs.Step.{BoundedState, coded_bounded_state};
-    ghost use Rattle.nw_dag.specs.Frozen.{AreTables};
+    ghost use Rattle.nw_dag.specs.Frozen.{IsDag};
 
     ghost Value = { BoundedState };
 
@@ -51,7 +51,7 @@ impl Model for Dag {
 
     ghost view = { λ d. d.held };
 
-    ghost invariant = { λ d. AreTables d.held.state d.waits.missing.unmet d.waits.missing.lacking
+    ghost invariant = { λ d. IsDag d.held.state d.waits.missing.unmet d.waits.missing.lacking
         d.waits.completions.fresh.items d.waits.completions.pending d.generations.blocks };
 }
 

@@ -2,7 +2,7 @@
 //!
 //! A *holder* is the digest of a block that names parents. A parent is *met* if its digest stands, with a block of the parent's
 //! round and author.
-ghost use Rattle.std.specs.Prelude.{◌≡◌, ◌<◌, ◌+◌, [], OnOk, OnErr};
+ghost use Rattle.std.specs.Prelude.{◌≡◌, ◌<◌, ◌≤◌, ◌+◌, [], OnOk, OnErr, MatchOption};
 ghost use Rattle.std.specs.FinSet as set;
 ghost use Rattle.nw_waiting.specs.Pairs.{without_holder};
 ghost use Rattle.nw_state.specs.Standing.{Stands, IsMet};
@@ -47,7 +47,7 @@ impl Waits {
     /// Records that the holder lacks the parent, if the parent is not met or not complete.
     ///
     /// `NoMemory` if allocation fails. Then nothing changes.
-    fn want(&mut self, held: &StateTables, wanted: Wanted, holder: Digest) -> Result<(), NoMemory>
+    fn add(&mut self, held: &StateTables, wanted: Wanted, holder: Digest) -> Result<(), NoMemory>
         requires { AreSplit held.now.state self.old.missing.unmet self.old.missing.lacking }
         ensures unmet { OnOk result
             (LacksAlso (IsMet held.now.state) (λ w. w ≡ wanted) holder
@@ -66,9 +66,9 @@ impl Waits {
         ensures unchanged { OnErr result (self.new.missing ≡ self.old.missing) }
     {
         if !held.is_met(&wanted) {
-            self.missing.want(wanted, holder, false)
+            self.missing.add(wanted, holder, false)
         } else if !lacks_nothing(&self.missing, wanted.digest) {
-            self.missing.want(wanted, holder, true)
+            self.missing.add(wanted, holder, true)
         } else {
             Ok(())
         }
@@ -78,7 +78,7 @@ impl Waits {
     /// complete.
     ///
     /// `NoMemory` if allocation fails. Then only some of them may be recorded.
-    fn want_each(
+    fn add_each(
         &mut self,
         held: &StateTables,
         round: Round,
@@ -98,7 +98,7 @@ impl Waits {
         ensures completions { self.new.completions ≡ self.old.completions }
     {
         for reference in references {
-            self.want(held, named_by(reference, round), holder)?;
+            self.add(held, named_by(reference, round), holder)?;
         }
         Ok(())
     }
@@ -107,7 +107,7 @@ impl Waits {
     /// garbage round lacks none. Before the call, the holder lacks nothing.
     ///
     /// `NoMemory` if allocation fails. Then nothing changes.
-    pub(crate) fn want_parents(
+    pub(crate) fn add_parents(
         &mut self,
         held: &StateTables,
         block: &Block,
@@ -129,13 +129,10 @@ impl Waits {
         ensures unchanged { OnErr result
             ((self.new.missing.unmet ≡ self.old.missing.unmet) × (self.new.missing.lacking ≡ self.old.missing.lacking)) }
     {
-        if block.round <= held.floor() {
-            return Ok(());
-        }
-        let Some(round) = block.round.before() else {
+        let Some(round) = parents_round(held, block) else {
             return Ok(());
         };
-        if let Err(refused) = self.want_each(held, round, block.parents.as_slice(), holder) {
+        if let Err(refused) = self.add_each(held, round, block.parents.as_slice(), holder) {
             self.forget(holder);
             return Err(refused);
         }
@@ -148,8 +145,19 @@ impl Waits {
         ensures lacking { self.new.missing.lacking ≡ without_holder self.old.missing.lacking holder }
         ensures completions { self.new.completions ≡ self.old.completions }
     {
-        self.missing.unwant(holder);
+        self.missing.drop_holder(holder);
     }
+}
+
+/// The round of the block's parents. `None` if the block is not above the garbage round: then it wants no parents.
+pub(crate) fn parents_round(held: &StateTables, block: &Block) -> Option<Round>
+    ensures { MatchOption result (block.now.round ≤ held.now.state.floor)
+        (λ round. (round + 1 ≡ block.now.round) × (held.now.state.floor < block.now.round)) }
+{
+    if block.round <= held.floor() {
+        return None;
+    }
+    block.round.before()
 }
 
 /// The parent that the reference names, in this round.

@@ -208,7 +208,3 @@ blocks_of bits many few =
     let split : bits ≡ 4 + (bits - 4) = omega arith in
     let power : 2 ^ bits ≡ 16 * 2 ^ (bits - 4) = ap (λ (x : ℕ). 2 ^ x) split ∙ pow-add 2 4 (bits - 4) in
     omega (arith, power)
-
-pub normalized_z : (p : Point) → (normalized p).z ≡ 1
-unfolding normalized
-normalized_z p = refl

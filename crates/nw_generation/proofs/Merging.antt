@@ -11,8 +11,7 @@ use Rattle.std.specs.FinMap.{FinMap, from_entries, get, same_map}
 use Rattle.nw_digest.specs.declared.digest.Digest.{Digest}
 use Rattle.nw_codec.specs.declared.block.Block.{Block}
 use Rattle.nw_digest.specs.Order.{digest_cmp}
-use Rattle.nw_model.proofs.Kept.{same_digest}
-use Rattle.nw_model.proofs.Maps.{digests_apart, digests_total, get_lookup}
+use Rattle.nw_digest.proofs.Maps.{digests_apart, digests_total, get_lookup, same_digest}
 use Rattle.nw_generation.specs.Entries.{Ascend, ComesBeforeAll, IsNext, under}
 use Rattle.nw_generation.specs.Seen.{IsOverlay, union}
 use Rattle.nw_generation.proofs.Searches.{Entries, below_each, head_below, none_below, tail_ascends}

@@ -1,7 +1,7 @@
 -- Searches among ascending entries.
 use Rattle.std.proofs.Common.{◌≡◌, ℕ, Bool, true, false, List, [], ◌∷◌, ◌++◌, Some, None, cond, length, take, drop, get_or, refl, ap, sym, ◌∙◌, arith}
 use Rattle.std.specs.declared.cmp.Ordering.{Ordering}
-use Rattle.std.specs.declared.cmp.Ordering.TheVariants.{Less, Equal, Greater}
+use Rattle.std.specs.declared.cmp.Ordering.TheVariants.{Less, Equal}
 use Rattle.std.specs.Ordering.{is_eq, ordering_reverse}
 use Rattle.std.specs.Str.{bytes_eq}
 use Rattle.std.proofs.lemmas.Map.Text.{is_eq-slice_cmp}
@@ -14,7 +14,7 @@ use Rattle.nw_codec.specs.declared.block.Block.{Block}
 use Rattle.nw_digest.specs.Order.{digest_cmp}
 use Rattle.nw_trie.proofs.Inserts.{above_all, below_all as each_above}
 use Rattle.nw_trie.proofs.Keys.{each_filter}
-use Rattle.nw_model.proofs.Maps.{digests_total, find_below, find_lookup}
+use Rattle.nw_digest.proofs.Maps.{digests_total, find_below, find_lookup, tie}
 use Rattle.nw_generation.specs.Entries.{AreHeads, Ascend, ComesBeforeAll, IsHead, under, bytes_of}
 
 abbrev pub Entries : Type 0
@@ -92,12 +92,7 @@ module _ (d k : Digest) (b : Block) (after : Entries) where
 
 -- digests with equal bytes compare as equal
 pub is_tie : (d k : Digest) → true ≡ bytes_eq d.0 k.0 → Equal ≡ digest_cmp d k
-is_tie d k same = by (digest_cmp d k) (is_eq-slice_cmp d.0 k.0 ∙ sym same)
-  where
-    by : (r : Ordering) → is_eq r ≡ true → Equal ≡ r
-    by Less eq = cc
-    by Equal eq = refl
-    by Greater eq = cc
+is_tie d k same = sym (tie (digest_cmp d k) (is_eq-slice_cmp d.0 k.0 ∙ sym same))
 
 -- filtered entries still ascend
 pub filtered_ascend : (keep : Digest × Block → Bool) (es : Entries) → Ascend es → Ascend (filter keep es)

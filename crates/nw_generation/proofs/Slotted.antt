@@ -8,8 +8,8 @@ use Rattle.nw_digest.specs.declared.digest.Digest.{Digest}
 use Rattle.nw_codec.specs.declared.block.Block.{Block}
 use Rattle.nw_digest.specs.Order.{digest_cmp}
 use Rattle.nw_trie.proofs.Inserts.{digest_equal}
-use Rattle.nw_model.proofs.Kept.{same_digest}
-use Rattle.nw_generation.specs.declared.slots.Slot.{Slot}
+use Rattle.nw_digest.proofs.Maps.{same_digest}
+use Rattle.nw_generation.specs.declared.slots.SlottedBlock.{SlottedBlock}
 use Rattle.nw_generation.specs.Entries.{Ascend, ComesBeforeAll, under}
 use Rattle.nw_generation.specs.Slots.{AreSlotsOf}
 use Rattle.nw_generation.proofs.Searches.{Entries, head_below, is_tie, past, tail_ascends}
@@ -28,13 +28,13 @@ found_each (x ∷ es) (suc i) e ascend within =
     ∙ found_each es i e (tail_ascends x es ascend) (omega (arith, within))
 
 -- one more slot, for an entry
-pub among_more : (slots : List Slot) (es : Entries) (i : ℕ) (e : Digest × Block) (s : Slot) → AreSlotsOf slots es → Ascend es → i < length es → e ≡ get_or es i e → s.digest ≡ e.0 → s.block ≡ e.1 → AreSlotsOf (slots ++ s ∷ []) es
+pub among_more : (slots : List SlottedBlock) (es : Entries) (i : ℕ) (e : Digest × Block) (s : SlottedBlock) → AreSlotsOf slots es → Ascend es → i < length es → e ≡ get_or es i e → s.digest ≡ e.0 → s.block ≡ e.1 → AreSlotsOf (slots ++ s ∷ []) es
 among_more slots es i e s are ascend within is digest block =
     let at : under es e.0 ≡ Some e.1 = subst (λ (x : Digest × Block). under es x.0 ≡ Some x.1) (sym is) (found_each es i e ascend within) in
-    All-append (λ (t : Slot). under es t.digest ≡ Some t.block) slots (s ∷ []) are
-    (All-cons (λ (t : Slot). under es t.digest ≡ Some t.block) s [] (ap (under es) digest ∙ at ∙ ap Some (sym block)) (All-nil _))
+    All-append (λ (t : SlottedBlock). under es t.digest ≡ Some t.block) slots (s ∷ []) are
+    (All-cons (λ (t : SlottedBlock). under es t.digest ≡ Some t.block) s [] (ap (under es) digest ∙ at ∙ ap Some (sym block)) (All-nil _))
 
 -- a slot with the digest has the block under the digest
-pub slot_answers : (slots : List Slot) (es : Entries) (place : ℕ) (s : Slot) (d : Digest) → AreSlotsOf slots es → place < length slots → s ≡ get_or slots place s → true ≡ bytes_eq d.0 s.digest.0 → under es d ≡ Some s.block
+pub slot_answers : (slots : List SlottedBlock) (es : Entries) (place : ℕ) (s : SlottedBlock) (d : Digest) → AreSlotsOf slots es → place < length slots → s ≡ get_or slots place s → true ≡ bytes_eq d.0 s.digest.0 → under es d ≡ Some s.block
 slot_answers slots es place s d are within is same =
-    ap (under es) (same_digest d s.digest (ap is_eq (sym (is_tie d s.digest same)))) ∙ subst (λ (x : Slot). under es x.digest ≡ Some x.block) (sym is) (are place s within)
+    ap (under es) (same_digest d s.digest (ap is_eq (sym (is_tie d s.digest same)))) ∙ subst (λ (x : SlottedBlock). under es x.digest ≡ Some x.block) (sym is) (are place s within)

@@ -10,7 +10,7 @@ use Rattle.std.specs.FinMap.Entries.{find}
 use Rattle.nw_digest.specs.declared.digest.Digest.{Digest}
 use Rattle.nw_codec.specs.declared.block.Block.{Block}
 use Rattle.nw_digest.specs.Order.{digest_cmp}
-use Rattle.nw_model.proofs.Maps.{digests_apart, digests_total}
+use Rattle.nw_digest.proofs.Maps.{digests_apart, digests_total}
 use Rattle.nw_generation.specs.Entries.{under}
 use Rattle.nw_generation.specs.Seen.{HasUpTo, IsOfRound, IsWithin, latest_first, union}
 

@@ -15,14 +15,14 @@ const FEWEST: usize = 9;
 
 /// A block under its digest, with its round and author.
 #[derive(Drop)]
-pub(crate) struct Slot {
+pub(crate) struct SlottedBlock {
     round: Round,
     author: u16,
     digest: Digest,
     block: Shared<Block>,
 }
 
-impl Slot {
+impl SlottedBlock {
     /// The round and author in one number, which is ordered as they are. A round is below 2^48.
     fn key(&self) -> u64 {
         self.round.get() << 16 | u64::from(self.author)
@@ -33,7 +33,7 @@ impl Slot {
 #[derive(Drop)]
 pub(crate) struct Slots {
     /// Ascending by round and author.
-    pub(crate) slots: Vec<Slot>,
+    pub(crate) slots: Vec<SlottedBlock>,
     /// For each round from the first one on, the number of slots of earlier rounds.
     starts: Vec<u32>,
 }
@@ -51,7 +51,7 @@ impl Slots {
             });
         }
         let mut slots = slots_of(alloc, entries)?;
-        slots.sort_by(|one: &Slot, other: &Slot| one.key().cmp(&other.key()))?;
+        slots.sort_by(|one: &SlottedBlock, other: &SlottedBlock| one.key().cmp(&other.key()))?;
         let starts = starts_of(alloc, slots.as_slice())?;
         Ok(Slots { slots, starts })
     }
@@ -85,7 +85,7 @@ impl Slots {
     }
 
     /// The number of slots before those of the round, and the slots of the round, by author. `None` if `starts` does not list the round.
-    fn row(&self, round: Round) -> Option<(usize, &[Slot])> {
+    fn row(&self, round: Round) -> Option<(usize, &[SlottedBlock])> {
         let first = self.slots.first()?.round;
         let number = round.get().checked_sub(first.get())? as usize;
         let begin = *self.starts.get(number)? as usize;
@@ -98,7 +98,7 @@ impl Slots {
 }
 
 /// Whether the slot at the place has a higher author.
-fn is_after(row: &[Slot], place: usize, author: u16) -> bool {
+fn is_after(row: &[SlottedBlock], place: usize, author: u16) -> bool {
     match row.get(place) {
         Some(slot) => slot.author > author,
         None => false,
@@ -106,14 +106,14 @@ fn is_after(row: &[Slot], place: usize, author: u16) -> bool {
 }
 
 /// One slot for each entry.
-fn slots_of(alloc: Global, entries: &[Entry]) -> Result<Vec<Slot>, NoMemory>
+fn slots_of(alloc: Global, entries: &[Entry]) -> Result<Vec<SlottedBlock>, NoMemory>
     requires { Ascend entries.now }
     ensures { IfOk result (λ slots. AreSlotsOf slots.items entries.now) }
 {
     let mut slots = Vec::with_capacity(alloc, entries.len())?;
     for entry in entries {
         let (digest, block) = entry;
-        slots.push(Slot {
+        slots.push(SlottedBlock {
             round: block.get().round,
             author: block.get().author,
             digest: *digest,
@@ -125,7 +125,7 @@ fn slots_of(alloc: Global, entries: &[Entry]) -> Result<Vec<Slot>, NoMemory>
 
 /// For each round from the first one on, the number of slots of earlier rounds. It lists at most four times as many rounds as there are
 /// slots; blocks of later rounds are found only by their digests.
-fn starts_of(alloc: Global, slots: &[Slot]) -> Result<Vec<u32>, NoMemory> {
+fn starts_of(alloc: Global, slots: &[SlottedBlock]) -> Result<Vec<u32>, NoMemory> {
     let mut starts = Vec::new(alloc);
     let Some(first) = slots.first() else {
         return Ok(starts);

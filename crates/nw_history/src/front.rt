@@ -30,9 +30,6 @@ pub struct Front<S: Scheme> {
     scheme: PhantomData<S>,
 }
 
-/// The history of a book: its latest front. Each event replaces it with another front.
-pub type History<S> = Front<S>;
-
 impl<S: Scheme> Model for Front<S> {
     ghost use Rattle.std.specs.Coded.{codes};
     ghost use Rattle.nw_shared_list.specs.SharedList.{items_of};

@@ -10,7 +10,7 @@ mod front;
 mod limits;
 mod start;
 
-pub use front::{Front, History};
+pub use front::Front;
 pub use limits::{Limits, MAX_BLOCKS, MAX_EVENTS, MAX_SESSIONS, MAX_WINDOW};
 pub use nw_committee::Committee;
 pub use nw_digest::{NoMemory, Shared};

@@ -36,7 +36,7 @@ impl<'a> Bindings<'a> {
 
     /// The digest of the named block. `Bad` if the name is not bound.
     pub fn digest_of(&self, name: Name<'a>) -> Result<Digest, LineFault> {
-        Ok(self.named_block(name)?.digest)
+        Ok(self.named_block(name)?.digest())
     }
 
     /// The named block. `Bad` if the name is not bound.

@@ -5,7 +5,7 @@ use crate::fault::LineFault;
 use crate::members::block_message;
 use crate::words::{named, refused};
 use nw_check::{Checked, check_message};
-use nw_codec::{Block, EncodeError, Transactions, encode_body};
+use nw_codec::{Block, EncodeError, Transactions};
 use nw_digest::Digest;
 use nw_script::{BlockLine, Name};
 use nw_sig::DemoScheme;
@@ -40,7 +40,7 @@ impl<'a> Bindings<'a> {
 
     /// The line with the body of the block in hex. `Bad` if the name is not bound, `NoMemory` if an allocation fails.
     pub fn body_in_hex(&self, alloc: Global, name: Name<'a>) -> Result<String, LineFault> {
-        let text = encode_body(alloc, &self.named_block(name)?.block)?;
+        let text = self.named_block(name)?.block().body(alloc)?;
         in_hex(alloc, name, text.as_slice())
     }
 
@@ -59,8 +59,8 @@ impl<'a> Bindings<'a> {
         signer: Option<u16>,
     ) -> Result<Checked<DemoScheme>, LineFault> {
         let named = self.named_block(name)?;
-        let signer = signer.unwrap_or(named.block.author);
-        let text = block_message(alloc, signer, &named.digest, &named.block)?;
+        let signer = signer.unwrap_or(named.block().author);
+        let text = block_message(alloc, signer, &named.digest(), named.block())?;
         Ok(check_message(alloc, &self.committee, &text)?)
     }
 }

@@ -1,6 +1,5 @@
 //! Faults of lines.
 
-use nw_book::BookError;
 use nw_codec::EncodeError;
 use nw_committee::CommitteeFault;
 use nw_digest::NoMemory;
@@ -13,15 +12,6 @@ pub enum LineFault {
     Bad,
     /// An allocation failed.
     NoMemory,
-}
-
-impl From<nw_script::LineFault> for LineFault {
-    fn from(fault: nw_script::LineFault) -> LineFault {
-        match fault {
-            nw_script::LineFault::Bad => LineFault::Bad,
-            nw_script::LineFault::NoMemory => LineFault::NoMemory,
-        }
-    }
 }
 
 impl From<AllocError> for LineFault {
@@ -59,23 +49,5 @@ impl From<CommitteeFault> for LineFault {
                 LineFault::Bad
             }
         }
-    }
-}
-
-impl From<BookError> for LineFault {
-    fn from(error: BookError) -> LineFault {
-        match error {
-            BookError::BadLimits => LineFault::Bad,
-            BookError::NoMemory => LineFault::NoMemory,
-        }
-    }
-}
-
-/// The encoded text, or `None` if the value is over a limit or out of order. An allocation failure stays an error.
-pub fn within_limits(encoded: Result<Vec<u8>, EncodeError>) -> Result<Option<Vec<u8>>, LineFault> {
-    match encoded {
-        Ok(text) => Ok(Some(text)),
-        Err(EncodeError::OverLimit) => Ok(None),
-        Err(EncodeError::NoMemory) => Err(LineFault::NoMemory),
     }
 }

@@ -1,15 +1,14 @@
 //! The members of a script's committee and what they sign. Member i has the demonstration key of its number.
 ghost use Rattle.std.specs.Prelude.{◌≡◌, IfOk, List, length, map, min};
+ghost use Rattle.nw_codec.specs.Fits.{Fits};
 ghost use Rattle.nw_committee.specs.Committee.{equal_members};
 ghost use Rattle.nw_committee.specs.declared.member.Key.{Key};
 ghost use Rattle.nw_interpreter.specs.Members.{AreMembersOf};
 
 use crate::fault::LineFault;
-use nw_codec::{
-    Block, Certificate, EncodeError, Message, Seal, Signature, Vote, encode_block, encode_message,
-};
+use nw_codec::{Block, Certificate, Seal, Signature, Vote};
 use nw_committee::{Committee, Key, MAX_MEMBERS, Member};
-use nw_digest::{Digest, Sequence};
+use nw_digest::{Digest, NoMemory, Sequence};
 use nw_script::CommitteeLine;
 use nw_sig::{DemoSigner, Signer, text_of_block, text_of_vote};
 use std::alloc::Global;
@@ -72,16 +71,17 @@ fn key(number: u16) -> Key {
     Key(bytes)
 }
 
-/// The encoded message of the block with this digest, signed by the member as its author.
-///
-/// `OverLimit` if the block does not fit (docs/FORMATS.md), `NoMemory` if an allocation fails.
+/// The encoded message of the block with this digest, signed by the member as its author. The block must fit (docs/FORMATS.md).
+/// `NoMemory` if an allocation fails.
 pub fn block_message(
     alloc: Global,
     member: u16,
     digest: &Digest,
     block: &Block,
-) -> Result<Vec<u8>, EncodeError> {
-    encode_block(alloc, block, &signature(member, &text_of_block(digest)))
+) -> Result<Vec<u8>, NoMemory>
+    requires { Fits block.now }
+{
+    block.message(alloc, &signature(member, &text_of_block(digest)))
 }
 
 /// The encoded message of the member's vote for the block with this digest. `NoMemory` if an allocation fails.
@@ -90,8 +90,8 @@ pub fn vote_message(
     member: u16,
     digest: Digest,
     block: &Block,
-) -> Result<Vec<u8>, EncodeError> {
-    encode_message(alloc, &Message::Vote(vote(member, digest, block)))
+) -> Result<Vec<u8>, NoMemory> {
+    vote(member, digest, block).message(alloc)
 }
 
 /// The member's vote for the block with this digest.
@@ -101,7 +101,7 @@ pub(crate) fn vote(member: u16, digest: Digest, block: &Block) -> Vote {
         round: block.round,
         author: block.author,
         signer: member,
-        signature: signature(member, &text_of_vote(&digest, block.round, block.author)),
+        signature: signature(member, &text_of_vote(&block.subject(digest))),
     }
 }
 

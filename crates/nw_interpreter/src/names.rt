@@ -1,4 +1,5 @@
 //! The names of blocks.
+ghost use Rattle.nw_codec.specs.Fits.{Fits};
 
 use crate::fault::LineFault;
 use nw_codec::{Block, Ref, block_digest};
@@ -6,12 +7,38 @@ use nw_digest::{Digest, Sequence};
 use nw_script::Name;
 use std::alloc::Global;
 use std::collections::HashMap;
+use std::marker::Model;
 
-/// A block that fits (docs/FORMATS.md), and its digest.
+/// A block that fits (docs/FORMATS.md), and its digest. Contracts see the block.
 #[derive(Drop)]
 pub struct NamedBlock {
-    pub block: Block,
-    pub digest: Digest,
+    block: Block,
+    digest: Digest,
+}
+
+impl Model for NamedBlock {
+    ghost use Rattle.nw_codec.specs.declared.block.Block.{Block};
+    ghost use Rattle.nw_codec.specs.Fits.{Fits};
+
+    ghost Value = { Block };
+
+    ghost view = { λ named. named.block };
+
+    ghost invariant = { λ named. Fits named.block };
+}
+
+impl NamedBlock {
+    /// The block.
+    pub fn block(&self) -> &Block
+        ensures { Fits result.now }
+    {
+        &self.block
+    }
+
+    /// The digest of the block.
+    pub fn digest(&self) -> Digest {
+        self.digest
+    }
 }
 
 /// The named blocks of a script, and the first name of each digest.
@@ -57,9 +84,11 @@ impl<'a> Names<'a> {
         Ok(Sequence::new(references))
     }
 
-    /// Binds the name, which must not be bound, to the block. `Bad` if the block does not fit, and `NoMemory` if an allocation fails.
-    pub fn bind(&mut self, name: Name<'a>, block: Block) -> Result<(), LineFault> {
-        let digest = digest_of(&block)?;
+    /// Binds the name, which must not be bound, to the block, which must fit. `NoMemory` if an allocation fails.
+    pub fn bind(&mut self, name: Name<'a>, block: Block) -> Result<(), LineFault>
+        requires { Fits block }
+    {
+        let digest = block_digest(&block);
         self.first_names.entry(digest.0)?.or_insert(name);
         drop(
             self.blocks
@@ -76,12 +105,4 @@ impl<'a> Names<'a> {
             .copied()
             .ok_or(LineFault::Bad)
     }
-}
-
-// The digest of the block. `Bad` if the block does not fit.
-fn digest_of(block: &Block) -> Result<Digest, LineFault> {
-    if !block.fits() {
-        return Err(LineFault::Bad);
-    }
-    Ok(block_digest(block))
 }

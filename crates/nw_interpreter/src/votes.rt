@@ -1,12 +1,11 @@
 //! Votes and certificates for named blocks.
 
 use crate::bindings::Bindings;
-use crate::fault::{LineFault, within_limits};
+use crate::fault::LineFault;
 use crate::members::{certificate, vote};
 use crate::names::NamedBlock;
 use crate::words::{named, refused};
 use nw_check::{Checked, Counted, Gather, GatherFault, StartFault, check_message, valid};
-use nw_codec::{Message, encode_message};
 use nw_script::Name;
 use nw_sig::DemoScheme;
 use std::alloc::Global;
@@ -35,15 +34,12 @@ impl<'a> Bindings<'a> {
         signers: &[u16],
     ) -> Result<Option<Vec<u8>>, LineFault> {
         let block = self.named_block(name)?;
-        let message = Message::Certificate(certificate(
-            alloc,
-            signers,
-            block.digest,
-            &block.block,
-        )?);
-        let text = encode_message(alloc, &message);
-        drop(message);
-        within_limits(text)
+        let certificate = certificate(alloc, signers, block.digest(), block.block())?;
+        if !certificate.fits() {
+            drop(certificate);
+            return Ok(None);
+        }
+        Ok(Some(certificate.message(alloc)?))
     }
 
     /// The line that says whether a certificate for the block, with the signers' votes in the given order, is valid. `Bad` if the name is
@@ -55,8 +51,8 @@ impl<'a> Bindings<'a> {
         signers: &[u16],
     ) -> Result<String, LineFault> {
         let block = self.named_block(name)?;
-        let certificate = certificate(alloc, signers, block.digest, &block.block)?;
-        let is_valid = valid::<DemoScheme>(self.committee.get(), block.digest, &certificate);
+        let certificate = certificate(alloc, signers, block.digest(), block.block())?;
+        let is_valid = valid::<DemoScheme>(self.committee.get(), block.digest(), &certificate);
         drop(certificate);
         named(alloc, name, if is_valid { "valid yes" } else { "valid no" })
     }
@@ -73,9 +69,9 @@ impl<'a> Bindings<'a> {
         match Gather::new(
             alloc,
             &self.committee,
-            block.digest,
-            block.block.round,
-            block.block.author,
+            block.digest(),
+            block.block().round,
+            block.block().author,
         ) {
             Ok(mut gather) => {
                 let line = gather_all(alloc, &mut gather, signers, name, block);
@@ -110,7 +106,7 @@ fn gather_one(
     signer: u16,
     block: &NamedBlock,
 ) -> Result<&'static str, LineFault> {
-    match gather.add(&vote(signer, block.digest, &block.block)) {
+    match gather.add(&vote(signer, block.digest(), block.block())) {
         Ok(Counted::Counted) => Ok("counted"),
         Ok(Counted::Quorum) => Ok("quorum"),
         Err(GatherFault::Repeated) => Ok("repeated"),

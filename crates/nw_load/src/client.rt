@@ -1,5 +1,5 @@
 //! The client thread of a node. It opens a causal read of each of the node's own blocks, and walks it.
-use crate::fault::End;
+use crate::fault::Stop;
 use crate::network::ClientChannel;
 use crate::node::LoadContext;
 use crate::store::ClientCalls;
@@ -40,7 +40,7 @@ impl<'a, L: Home, G: Gate> Client<'a, L, G> {
     }
 
     /// Reads the node's block of each round after it is certified. Returns the number of blocks in the last list.
-    pub(crate) fn run<R: Wait>(&mut self, rt: &R) -> Result<usize, End> {
+    pub(crate) fn run<R: Wait>(&mut self, rt: &R) -> Result<usize, Stop> {
         let mut last = 0;
         for round in 0..self.rounds {
             let digest = self.channel.receive(rt)?;
@@ -50,7 +50,7 @@ impl<'a, L: Home, G: Gate> Client<'a, L, G> {
     }
 
     /// Opens a causal read of the round's block and walks it. Returns the number of blocks in the list.
-    fn read<R: Wait>(&mut self, rt: &R, round: u32, digest: Digest) -> Result<usize, End> {
+    fn read<R: Wait>(&mut self, rt: &R, round: u32, digest: Digest) -> Result<usize, Stop> {
         let node = self.node;
         match self.store.open(rt, self.alloc, digest)? {
             Some(ticket) => {
@@ -58,12 +58,12 @@ impl<'a, L: Home, G: Gate> Client<'a, L, G> {
                 drop(ticket);
                 listed
             }
-            None => Err(End::Causal { node, round }),
+            None => Err(Stop::Causal { node, round }),
         }
     }
 
     /// Walks the ticket between two points of the gate. It gets no `rt`, which every wait needs, so it takes no lock.
-    fn walk(&self, number: u32, ticket: &Ticket<DemoScheme>) -> Result<usize, End> {
+    fn walk(&self, number: u32, ticket: &Ticket<DemoScheme>) -> Result<usize, Stop> {
         let node = self.node;
         pass_start(self.gate, Point::WalkStart { node, number })?;
         let blocks = ticket.walk(self.alloc)?;

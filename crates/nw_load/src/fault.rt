@@ -33,9 +33,9 @@ pub enum LoadFault {
     Unsettled { node: u32 },
 }
 
-/// Why a thread ended early.
-#[derive(Clone, Copy)]
-pub(crate) enum End {
+/// Why a thread ended early, in the order of `LoadFault`.
+#[derive(Clone, Copy, PartialEq, Eq, PartialOrd, Ord)]
+pub(crate) enum Stop {
     NoMemory,
     Spawn,
     GateShut,
@@ -45,73 +45,51 @@ pub(crate) enum End {
     CutOff,
 }
 
-impl End {
-    /// The one of the two ends whose kind comes first in the order of `LoadFault`. If both are of one kind, it is this one.
-    pub(crate) fn first_of(self, other: End) -> End {
-        if other.rank() < self.rank() {
-            other
-        } else {
-            self
-        }
-    }
-
-    fn rank(self) -> u8 {
-        match self {
-            End::NoMemory => 0,
-            End::Spawn => 1,
-            End::GateShut => 2,
-            End::Causal { .. } => 3,
-            End::Unsettled { .. } => 4,
-            End::CutOff => 5,
-        }
+impl From<NoMemory> for Stop {
+    fn from(_error: NoMemory) -> Stop {
+        Stop::NoMemory
     }
 }
 
-impl From<NoMemory> for End {
-    fn from(_error: NoMemory) -> End {
-        End::NoMemory
-    }
-}
-
-impl From<AllocError> for End {
+impl From<AllocError> for Stop {
     ghost use Rattle.std.specs.Prelude.{◌≡◌};
-    ghost use Rattle.nw_load.specs.declared.fault.End.TheVariants.{NoMemory};
+    ghost use Rattle.nw_load.specs.declared.fault.Stop.TheVariants.{NoMemory};
 
-    ghost from_gives = { λ _ end. end ≡ NoMemory };
+    ghost from_gives = { λ _ stop. stop ≡ NoMemory };
 
-    fn from(_error: AllocError) -> End {
-        End::NoMemory
+    fn from(_error: AllocError) -> Stop {
+        Stop::NoMemory
     }
 }
 
-impl<T: Drop> From<AllocFailed<T>> for End {
-    fn from(_error: AllocFailed<T>) -> End {
-        End::NoMemory
+impl<T: Drop> From<AllocFailed<T>> for Stop {
+    fn from(_error: AllocFailed<T>) -> Stop {
+        Stop::NoMemory
     }
 }
 
-impl From<GateShut> for End {
-    fn from(_error: GateShut) -> End {
-        End::GateShut
+impl From<GateShut> for Stop {
+    fn from(_error: GateShut) -> Stop {
+        Stop::GateShut
     }
 }
 
 // Blocks and certificates of a load are within the limits of the formats.
-impl From<EncodeError> for End {
-    fn from(error: EncodeError) -> End {
+impl From<EncodeError> for Stop {
+    fn from(error: EncodeError) -> Stop {
         match error {
-            EncodeError::NoMemory => End::NoMemory,
-            EncodeError::OverLimit => End::CutOff,
+            EncodeError::NoMemory => Stop::NoMemory,
+            EncodeError::OverLimit => Stop::CutOff,
         }
     }
 }
 
 // The nodes of a load always form a committee.
-impl From<LineFault> for End {
-    fn from(fault: LineFault) -> End {
+impl From<LineFault> for Stop {
+    fn from(fault: LineFault) -> Stop {
         match fault {
-            LineFault::NoMemory => End::NoMemory,
-            LineFault::Bad => End::CutOff,
+            LineFault::NoMemory => Stop::NoMemory,
+            LineFault::Bad => Stop::CutOff,
         }
     }
 }

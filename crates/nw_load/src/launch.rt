@@ -3,7 +3,7 @@ ghost use Rattle.std.specs.Prelude.{◌↔◌, IsErrOf};
 ghost use Rattle.nw_load.specs.Size.{IsNodeCount, IsRoundCount};
 ghost use Rattle.nw_load.specs.declared.fault.LoadFault.TheVariants as LoadFault;
 
-use crate::fault::{End, LoadFault};
+use crate::fault::{LoadFault, Stop};
 use crate::network::{Inbox, Network};
 use crate::node::{LoadContext, run_node};
 use crate::report::NodeReport;
@@ -19,7 +19,7 @@ use std::thread;
 use std::thread::{JoinHandle, Scope, Threads};
 
 /// The thread of a node.
-type NodeThread = JoinHandle<Result<NodeReport, End>>;
+type NodeThread = JoinHandle<Result<NodeReport, Stop>>;
 
 /// Runs a load of `nodes` nodes over `rounds` rounds, and returns the nodes' reports in order. Each node has a store and two threads.
 ///
@@ -44,11 +44,11 @@ pub fn load<G: Gate + Sync, R: Threads + Wait + Sync>(
     }
     match run_all(rt, alloc, nodes as u16, rounds, gate) {
         Ok(reports) => Ok(reports),
-        Err(End::NoMemory) => Err(LoadFault::NoMemory),
-        Err(End::GateShut) => Err(LoadFault::GateShut),
-        Err(End::Causal { node, round }) => Err(LoadFault::Causal { node, round }),
-        Err(End::Unsettled { node }) => Err(LoadFault::Unsettled { node }),
-        Err(End::Spawn | End::CutOff) => Err(LoadFault::Spawn),
+        Err(Stop::NoMemory) => Err(LoadFault::NoMemory),
+        Err(Stop::GateShut) => Err(LoadFault::GateShut),
+        Err(Stop::Causal { node, round }) => Err(LoadFault::Causal { node, round }),
+        Err(Stop::Unsettled { node }) => Err(LoadFault::Unsettled { node }),
+        Err(Stop::Spawn | Stop::CutOff) => Err(LoadFault::Spawn),
     }
 }
 
@@ -59,7 +59,7 @@ fn run_all<G: Gate + Sync, R: Threads + Wait + Sync>(
     nodes: u16,
     rounds: u32,
     gate: &G,
-) -> Result<Vec<NodeReport>, End> {
+) -> Result<Vec<NodeReport>, Stop> {
     let committee = committee_of(alloc, nodes)?;
     let (network, inboxes) = Network::new(alloc, nodes)?;
     let context = LoadContext {
@@ -75,7 +75,7 @@ fn run_all<G: Gate + Sync, R: Threads + Wait + Sync>(
 }
 
 /// A committee of members with equal weight, one for each node.
-fn committee_of(alloc: Global, nodes: u16) -> Result<Shared<Committee>, End> {
+fn committee_of(alloc: Global, nodes: u16) -> Result<Shared<Committee>, Stop> {
     let members = u32::from(nodes);
     let committee = committee(alloc, &CommitteeLine::Equal { members })?;
     Ok(Shared::new(alloc, committee)?)
@@ -85,13 +85,13 @@ fn committee_of(alloc: Global, nodes: u16) -> Result<Shared<Committee>, End> {
 fn run_nodes<G: Gate + Sync, R: Threads + Wait + Sync>(
     context: &LoadContext<'_, R, G>,
     inboxes: Vec<Inbox>,
-) -> Result<Vec<NodeReport>, End> {
+) -> Result<Vec<NodeReport>, Stop> {
     thread::scope(thread::scope_env(), context.rt, |scope| {
         match start_all(scope, context, inboxes) {
             Ok(handles) => join_all(context, handles),
-            Err(end) => {
+            Err(stop) => {
                 context.network.close(context.rt);
-                Err(end)
+                Err(stop)
             }
         }
     })
@@ -102,7 +102,7 @@ fn start_all<'s, 'e, G: Gate + Sync, R: Threads + Wait + Sync>(
     scope: &Scope<'s, &'e ()>,
     context: &'e LoadContext<'e, R, G>,
     inboxes: Vec<Inbox>,
-) -> Result<Vec<NodeThread>, End> {
+) -> Result<Vec<NodeThread>, Stop> {
     let mut handles = Vec::with_capacity(context.alloc, inboxes.len())?;
     for (node, inbox) in (0..context.nodes).zip(inboxes) {
         match scope.spawn(move || run_node(context, node, inbox)) {
@@ -116,26 +116,26 @@ fn start_all<'s, 'e, G: Gate + Sync, R: Threads + Wait + Sync>(
     Ok(handles)
 }
 
-/// Waits for the threads and returns the reports of all nodes. If a node has none, it returns the end whose kind comes first.
+/// Waits for the threads and returns the reports of all nodes. If a node has none, it returns the first reason in the order of `Stop`.
 fn join_all<G: Gate, R: Threads>(
     context: &LoadContext<'_, R, G>,
     handles: Vec<NodeThread>,
-) -> Result<Vec<NodeReport>, End> {
+) -> Result<Vec<NodeReport>, Stop> {
     let nodes = usize::from(context.nodes);
-    let mut end = if handles.len() < nodes {
-        End::Spawn
+    let mut stop = if handles.len() < nodes {
+        Stop::Spawn
     } else {
-        End::CutOff
+        Stop::CutOff
     };
     let mut reports = Vec::with_capacity(context.alloc, nodes)?;
     for handle in handles {
         match handle.join(context.rt) {
             Ok(report) => reports.push(report)?,
-            Err(other) => end = end.first_of(other),
+            Err(other) => stop = stop.min(other),
         }
     }
     if reports.len() < nodes {
-        Err(end)
+        Err(stop)
     } else {
         Ok(reports)
     }

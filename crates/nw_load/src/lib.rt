@@ -13,7 +13,6 @@ mod client;
 mod fault;
 mod launch;
 mod link;
-mod message;
 mod network;
 mod node;
 mod program;

@@ -1,6 +1,5 @@
 //! The link thread of a node. It makes the node's blocks, and writes, votes for and certifies the blocks of all nodes.
-use crate::fault::End;
-use crate::message::{text_of_block, text_of_certificate};
+use crate::fault::Stop;
 use crate::network::LinkChannels;
 use crate::node::LoadContext;
 use crate::store::LinkCalls;
@@ -8,11 +7,11 @@ use nw_check::{
     Checked, CheckedBlock, CheckedCert, Counted, FinishFault, Gather, GatherFault, StartFault,
     check_message,
 };
-use nw_codec::{Block, Ref, Transactions, Vote};
+use nw_codec::{Block, Ref, Transactions, Vote, block_digest};
 use nw_committee::Committee;
 use nw_digest::{Round, Sequence, Shared};
 use nw_intake::{Gate, Point, pass_start};
-use nw_interpreter::vote_message;
+use nw_interpreter::{block_message, vote_message};
 use nw_sig::DemoScheme;
 use nw_store::Home;
 use std::alloc::Global;
@@ -65,7 +64,7 @@ impl<'a, L: Home, G: Gate> Link<'a, L, G> {
 
     /// Makes the block of each round, and handles the messages of other nodes. It returns when the node's store has all blocks of
     /// all nodes written and certified.
-    pub(crate) fn run<R: Wait>(&mut self, rt: &R) -> Result<(), End> {
+    pub(crate) fn run<R: Wait>(&mut self, rt: &R) -> Result<(), Stop> {
         let none = Vec::new(self.alloc);
         self.make(rt, none)?;
         for _ in 0..u64::MAX {
@@ -76,7 +75,7 @@ impl<'a, L: Home, G: Gate> Link<'a, L, G> {
             self.handle(rt, &text)?;
             self.make_next(rt)?;
         }
-        Err(End::CutOff)
+        Err(Stop::CutOff)
     }
 
     /// Whether the node's store has all blocks of all nodes written and certified.
@@ -86,7 +85,7 @@ impl<'a, L: Home, G: Gate> Link<'a, L, G> {
     }
 
     /// Checks the message, and then writes its block, certifies its certificate or counts its vote. A bad message is dropped.
-    fn handle<R: Wait>(&mut self, rt: &R, text: &[u8]) -> Result<(), End> {
+    fn handle<R: Wait>(&mut self, rt: &R, text: &[u8]) -> Result<(), Stop> {
         match check_message(self.alloc, self.committee, text)? {
             Checked::Block(block) => self.write(rt, &block),
             Checked::Cert(certificate) => self.certify(rt, &certificate),
@@ -96,7 +95,7 @@ impl<'a, L: Home, G: Gate> Link<'a, L, G> {
     }
 
     /// Makes the node's next block, if one is left and the node's store has all blocks of the preceding round written and certified.
-    fn make_next<R: Wait>(&mut self, rt: &R) -> Result<(), End> {
+    fn make_next<R: Wait>(&mut self, rt: &R) -> Result<(), Stop> {
         if self.made >= self.rounds {
             return Ok(());
         }
@@ -110,8 +109,8 @@ impl<'a, L: Home, G: Gate> Link<'a, L, G> {
     }
 
     /// Makes the node's block of the next round with these parents, sends it to all other nodes, and writes it.
-    fn make<R: Wait>(&mut self, rt: &R, parents: Vec<Ref>) -> Result<(), End> {
-        let text = text_of_block(self.alloc, &self.block(parents))?;
+    fn make<R: Wait>(&mut self, rt: &R, parents: Vec<Ref>) -> Result<(), Stop> {
+        let text = own_message(self.alloc, &self.block(parents))?;
         self.made = self.made.saturating_add(1);
         match check_message(self.alloc, self.committee, &text)? {
             Checked::Block(block) => {
@@ -119,7 +118,7 @@ impl<'a, L: Home, G: Gate> Link<'a, L, G> {
                 self.send_to_others(rt, &text)?;
                 self.write(rt, &block)
             }
-            _ => Err(End::CutOff),
+            _ => Err(Stop::CutOff),
         }
     }
 
@@ -134,17 +133,17 @@ impl<'a, L: Home, G: Gate> Link<'a, L, G> {
     }
 
     /// A gatherer for the node's own block, without votes.
-    fn gather_for(&self, block: &CheckedBlock<DemoScheme>) -> Result<Gather<DemoScheme>, End> {
+    fn gather_for(&self, block: &CheckedBlock<DemoScheme>) -> Result<Gather<DemoScheme>, Stop> {
         let round = block.block().get().round;
         match Gather::new(self.alloc, self.committee, block.digest(), round, self.node) {
             Ok(gather) => Ok(gather),
-            Err(StartFault::NoMemory) => Err(End::NoMemory),
-            Err(StartFault::Author) => Err(End::CutOff),
+            Err(StartFault::NoMemory) => Err(Stop::NoMemory),
+            Err(StartFault::Author) => Err(Stop::CutOff),
         }
     }
 
     /// Writes the block between two points of the gate, and sends the node's vote to its author if the store voted for it.
-    fn write<R: Wait>(&mut self, rt: &R, checked: &CheckedBlock<DemoScheme>) -> Result<(), End> {
+    fn write<R: Wait>(&mut self, rt: &R, checked: &CheckedBlock<DemoScheme>) -> Result<(), Stop> {
         let node = u32::from(self.node);
         let number = self.written.saturating_add(1);
         self.written = number;
@@ -160,7 +159,7 @@ impl<'a, L: Home, G: Gate> Link<'a, L, G> {
     }
 
     /// Counts a vote for the node's own block, and certifies the block when the votes reach the quorum. Any other vote is dropped.
-    fn count_vote<R: Wait>(&mut self, rt: &R, vote: &Vote) -> Result<(), End> {
+    fn count_vote<R: Wait>(&mut self, rt: &R, vote: &Vote) -> Result<(), Stop> {
         let Some(gather) = &mut self.gather else {
             return Ok(());
         };
@@ -170,7 +169,7 @@ impl<'a, L: Home, G: Gate> Link<'a, L, G> {
                 self.gather = None;
                 self.announce(rt, certificate)
             }
-            Err(GatherFault::NoMemory) => Err(End::NoMemory),
+            Err(GatherFault::NoMemory) => Err(Stop::NoMemory),
             _ => Ok(()),
         }
     }
@@ -180,9 +179,9 @@ impl<'a, L: Home, G: Gate> Link<'a, L, G> {
         &mut self,
         rt: &R,
         certificate: CheckedCert<DemoScheme>,
-    ) -> Result<(), End> {
+    ) -> Result<(), Stop> {
         let digest = certificate.digest();
-        let text = text_of_certificate(self.alloc, certificate.certificate().get())?;
+        let text = certificate.certificate().get().message(self.alloc)?;
         self.certify(rt, &certificate)?;
         self.channels.tell_client(rt, digest)?;
         self.send_to_others(rt, &text)
@@ -193,14 +192,14 @@ impl<'a, L: Home, G: Gate> Link<'a, L, G> {
         &mut self,
         rt: &R,
         certificate: &CheckedCert<DemoScheme>,
-    ) -> Result<(), End> {
+    ) -> Result<(), Stop> {
         self.store.certify(rt, self.alloc, certificate)?;
         self.certified = self.certified.saturating_add(1);
         Ok(())
     }
 
     /// Sends the message to all other nodes.
-    fn send_to_others<R: Wait>(&self, rt: &R, text: &[u8]) -> Result<(), End> {
+    fn send_to_others<R: Wait>(&self, rt: &R, text: &[u8]) -> Result<(), Stop> {
         for node in 0..self.nodes {
             if node != self.node {
                 self.channels.send(rt, node, text.to_vec(self.alloc)?)?;
@@ -211,10 +210,19 @@ impl<'a, L: Home, G: Gate> Link<'a, L, G> {
 }
 
 /// The certificate of votes that reach the quorum.
-fn finished(alloc: Global, gather: &Gather<DemoScheme>) -> Result<CheckedCert<DemoScheme>, End> {
+fn finished(alloc: Global, gather: &Gather<DemoScheme>) -> Result<CheckedCert<DemoScheme>, Stop> {
     match gather.finish(alloc) {
         Ok(certificate) => Ok(certificate),
-        Err(FinishFault::NoMemory) => Err(End::NoMemory),
-        Err(FinishFault::FewVotes) => Err(End::CutOff),
+        Err(FinishFault::NoMemory) => Err(Stop::NoMemory),
+        Err(FinishFault::FewVotes) => Err(Stop::CutOff),
     }
+}
+
+/// The encoded message of the node's block, signed by its author. A block of a load is always within the limits.
+fn own_message(alloc: Global, block: &Block) -> Result<Vec<u8>, Stop> {
+    if !block.fits() {
+        return Err(Stop::CutOff);
+    }
+    let digest = block_digest(block);
+    Ok(block_message(alloc, block.author, &digest, block)?)
 }

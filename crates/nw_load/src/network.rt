@@ -1,5 +1,5 @@
 //! The channels between the threads of a load.
-use crate::fault::End;
+use crate::fault::Stop;
 use crossbeam_channel::{Receiver, RecvError, SendError, Sender, unbounded};
 use nw_digest::Digest;
 use std::alloc::Global;
@@ -16,7 +16,7 @@ pub(crate) struct Network {
 
 impl Network {
     /// A network of `nodes` nodes, and their inboxes.
-    pub(crate) fn new(alloc: Global, nodes: u16) -> Result<(Network, Vec<Inbox>), End> {
+    pub(crate) fn new(alloc: Global, nodes: u16) -> Result<(Network, Vec<Inbox>), Stop> {
         let mut senders = Vec::with_capacity(alloc, usize::from(nodes))?;
         let mut inboxes = Vec::with_capacity(alloc, usize::from(nodes))?;
         for _ in 0..nodes {
@@ -31,10 +31,10 @@ impl Network {
     }
 
     /// Sends the message to the node. If the node has ended, the message is dropped. `CutOff` if the network is closed.
-    fn send<R: Wait>(&self, rt: &R, node: u16, text: Vec<u8>) -> Result<(), End> {
+    fn send<R: Wait>(&self, rt: &R, node: u16, text: Vec<u8>) -> Result<(), Stop> {
         let senders = self.senders.read(rt);
         let Some(senders) = &*senders else {
-            return Err(End::CutOff);
+            return Err(Stop::CutOff);
         };
         match senders.get(usize::from(node)) {
             Some(sender) => end_if_out_of_memory(sender.send(rt, text)),
@@ -50,9 +50,9 @@ impl Network {
 }
 
 // An allocation failure ends the load. A message to a thread that has ended is dropped.
-fn end_if_out_of_memory<T: Drop>(outcome: Result<(), SendError<T>>) -> Result<(), End> {
+fn end_if_out_of_memory<T: Drop>(outcome: Result<(), SendError<T>>) -> Result<(), Stop> {
     match outcome {
-        Err(SendError::OutOfMemory(_)) => Err(End::NoMemory),
+        Err(SendError::OutOfMemory(_)) => Err(Stop::NoMemory),
         _ => Ok(()),
     }
 }
@@ -67,17 +67,17 @@ pub(crate) struct LinkChannels<'a> {
 
 impl<'a> LinkChannels<'a> {
     /// Sends the message to the node, which may be the link's own. If the node has ended, the message is dropped.
-    pub(crate) fn send<R: Wait>(&self, rt: &R, node: u16, text: Vec<u8>) -> Result<(), End> {
+    pub(crate) fn send<R: Wait>(&self, rt: &R, node: u16, text: Vec<u8>) -> Result<(), Stop> {
         self.network.send(rt, node, text)
     }
 
     /// Waits for the next message.
-    pub(crate) fn receive<R: Wait>(&self, rt: &R) -> Result<Vec<u8>, End> {
+    pub(crate) fn receive<R: Wait>(&self, rt: &R) -> Result<Vec<u8>, Stop> {
         received(self.inbox.recv(rt))
     }
 
     /// Tells the client that the node's block of the next round, which has this digest, is certified.
-    pub(crate) fn tell_client<R: Wait>(&self, rt: &R, digest: Digest) -> Result<(), End> {
+    pub(crate) fn tell_client<R: Wait>(&self, rt: &R, digest: Digest) -> Result<(), Stop> {
         end_if_out_of_memory(self.to_client.send(rt, digest))
     }
 }
@@ -90,15 +90,15 @@ pub(crate) struct ClientChannel {
 
 impl ClientChannel {
     /// Waits for the digest of the node's next certified block.
-    pub(crate) fn receive<R: Wait>(&self, rt: &R) -> Result<Digest, End> {
+    pub(crate) fn receive<R: Wait>(&self, rt: &R) -> Result<Digest, Stop> {
         received(self.from_link.recv(rt))
     }
 }
 
 // A closed channel means that another thread ended early.
-fn received<T: Drop>(outcome: Result<T, RecvError>) -> Result<T, End> {
+fn received<T: Drop>(outcome: Result<T, RecvError>) -> Result<T, Stop> {
     match outcome {
         Ok(it) => Ok(it),
-        Err(_) => Err(End::CutOff),
+        Err(_) => Err(Stop::CutOff),
     }
 }

@@ -3,7 +3,7 @@ ghost use Rattle.std.specs.Prelude.{◌≡◌};
 ghost use Rattle.nw_history.specs.Story.{first_origin};
 ghost use Rattle.nw_store.specs.Lock.{parts_of_a_ledger};
 
-use crate::fault::End;
+use crate::fault::Stop;
 use crate::network::{Inbox, Network};
 use crate::report::NodeReport;
 use crate::threads::{Finished, run_both};
@@ -46,7 +46,7 @@ pub(crate) fn run_node<R: Threads + Wait + Sync, G: Gate + Sync>(
     context: &LoadContext<'_, R, G>,
     node: u16,
     inbox: Inbox,
-) -> Result<NodeReport, End> {
+) -> Result<NodeReport, Stop> {
     let outcome = open_store(context, node, &inbox);
     if outcome.is_err() {
         context.network.close(context.rt);
@@ -59,7 +59,7 @@ fn open_store<R: Threads + Wait + Sync, G: Gate + Sync>(
     context: &LoadContext<'_, R, G>,
     node: u16,
     inbox: &Inbox,
-) -> Result<NodeReport, End> {
+) -> Result<NodeReport, Stop> {
     let opening = Opening::new(context.alloc)?;
     let committee = context.committee.try_clone()?;
     run_store::<Brand, R, G>(context, node, inbox, opening, committee, LIMITS)
@@ -73,7 +73,7 @@ fn run_store<L: Home, R: Threads + Wait + Sync, G: Gate + Sync>(
     opening: Opening<DemoScheme>,
     committee: Shared<Committee>,
     limits: Limits,
-) -> Result<NodeReport, End>
+) -> Result<NodeReport, Stop>
     requires log { opening.log ≡ L.log }
     requires ledger { (opening.ledger ≡ L.name) × (L.parts ≡ parts_of_a_ledger) }
     requires origin { first_origin committee limits ≡ L.origin }
@@ -81,9 +81,9 @@ fn run_store<L: Home, R: Threads + Wait + Sync, G: Gate + Sync>(
     let store = new_store::<L>(context.alloc, opening, committee, limits)?;
     match run_threads(context, node, inbox, &store) {
         Ok((last, sessions)) => settle_node(node, store, sessions, last),
-        Err(end) => {
+        Err(stop) => {
             drop(store);
-            Err(end)
+            Err(stop)
         }
     }
 }
@@ -94,15 +94,15 @@ fn new_store<L: Home>(
     opening: Opening<DemoScheme>,
     committee: Shared<Committee>,
     limits: Limits,
-) -> Result<Store<DemoScheme, L>, End>
+) -> Result<Store<DemoScheme, L>, Stop>
     requires log { opening.log ≡ L.log }
     requires ledger { (opening.ledger ≡ L.name) × (L.parts ≡ parts_of_a_ledger) }
     requires origin { first_origin committee limits ≡ L.origin }
 {
     match Store::new(alloc, opening, committee, limits) {
         Ok(store) => Ok(store),
-        Err(BookError::NoMemory) => Err(End::NoMemory),
-        Err(BookError::BadLimits) => Err(End::CutOff),
+        Err(BookError::NoMemory) => Err(Stop::NoMemory),
+        Err(BookError::BadLimits) => Err(Stop::CutOff),
     }
 }
 
@@ -111,10 +111,10 @@ fn new_session<L: Home, R: Wait, G>(
     context: &LoadContext<'_, R, G>,
     node: u16,
     store: &Store<DemoScheme, L>,
-) -> Result<Session<DemoScheme, L>, End> {
+) -> Result<Session<DemoScheme, L>, Stop> {
     match store.session(context.rt, context.alloc) {
         Ok(session) => Ok(session),
-        Err(_too_many) => Err(End::Unsettled {
+        Err(_too_many) => Err(Stop::Unsettled {
             node: u32::from(node),
         }),
     }
@@ -126,7 +126,7 @@ fn run_threads<L: Home, R: Threads + Wait + Sync, G: Gate + Sync>(
     node: u16,
     inbox: &Inbox,
     store: &Store<DemoScheme, L>,
-) -> Result<Finished<L>, End> {
+) -> Result<Finished<L>, Stop> {
     let (to_client, from_link) = unbounded(context.alloc)?;
     let first = new_session(context, node, store)?;
     match new_session(context, node, store) {
@@ -138,9 +138,9 @@ fn run_threads<L: Home, R: Threads + Wait + Sync, G: Gate + Sync>(
             (first, second),
             (to_client, from_link),
         ),
-        Err(end) => {
+        Err(stop) => {
             drop(first);
-            Err(end)
+            Err(stop)
         }
     }
 }
@@ -151,7 +151,7 @@ fn settle_node<L: Home>(
     store: Store<DemoScheme, L>,
     sessions: Vec<Session<DemoScheme, L>>,
     last: usize,
-) -> Result<NodeReport, End> {
+) -> Result<NodeReport, Stop> {
     match settle(store, sessions) {
         Ok(settled) => {
             let events = settled.history().len();
@@ -160,7 +160,7 @@ fn settle_node<L: Home>(
         }
         Err(refused) => {
             drop(refused);
-            Err(End::Unsettled {
+            Err(Stop::Unsettled {
                 node: u32::from(node),
             })
         }

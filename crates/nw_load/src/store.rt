@@ -1,5 +1,5 @@
 //! The calls of a node's threads. Each thread has a type with the calls that it may make.
-use crate::fault::End;
+use crate::fault::Stop;
 use nw_check::{CheckedBlock, CheckedCert};
 use nw_codec::Ref;
 use nw_digest::{Digest, Round};
@@ -24,7 +24,7 @@ impl<'a, L: Home> LinkCalls<'a, L> {
         rt: &R,
         alloc: Global,
         block: &CheckedBlock<DemoScheme>,
-    ) -> Result<bool, End> {
+    ) -> Result<bool, Stop> {
         match self.store.write(rt, alloc, self.session, block) {
             Ok(done) => {
                 let vote = matches!(
@@ -34,7 +34,7 @@ impl<'a, L: Home> LinkCalls<'a, L> {
                 drop(done);
                 Ok(vote)
             }
-            Err(refusal) => Err(end_of_refusal(self.node, refusal)),
+            Err(refusal) => Err(stop_of_refusal(self.node, refusal)),
         }
     }
 
@@ -45,16 +45,15 @@ impl<'a, L: Home> LinkCalls<'a, L> {
         alloc: Global,
         round: Round,
         nodes: u16,
-    ) -> Result<Option<Vec<Ref>>, End> {
+    ) -> Result<Option<Vec<Ref>>, Stop> {
         let mut parents = Vec::with_capacity(alloc, usize::from(nodes))?;
-        for author in 0..nodes {
-            let look = self.store.look(rt, round, author);
+        for (author, look) in self.store.look_round(rt, alloc, round)? {
             match look.certified {
                 Some(digest) if look.stands => parents.push(Ref { author, digest })?,
                 _ => return Ok(None),
             }
         }
-        Ok(Some(parents))
+        Ok((parents.len() == usize::from(nodes)).then_some(parents))
     }
 
     /// Certifies the digest of the certificate.
@@ -63,13 +62,13 @@ impl<'a, L: Home> LinkCalls<'a, L> {
         rt: &R,
         alloc: Global,
         certificate: &CheckedCert<DemoScheme>,
-    ) -> Result<(), End> {
+    ) -> Result<(), Stop> {
         match self.store.certify(rt, alloc, self.session, certificate) {
             Ok(done) => {
                 drop(done);
                 Ok(())
             }
-            Err(refusal) => Err(end_of_refusal(self.node, refusal)),
+            Err(refusal) => Err(stop_of_refusal(self.node, refusal)),
         }
     }
 }
@@ -89,18 +88,20 @@ impl<'a, L: Home> ClientCalls<'a, L> {
         rt: &R,
         alloc: Global,
         digest: Digest,
-    ) -> Result<Option<Ticket<DemoScheme>>, End> {
+    ) -> Result<Option<Ticket<DemoScheme>>, Stop> {
         match self.store.open_causal(rt, alloc, self.session, digest) {
             Ok(answer) => Ok(answer.ok()),
-            Err(refusal) => Err(end_of_refusal(self.node, refusal)),
+            Err(refusal) => Err(stop_of_refusal(self.node, refusal)),
         }
     }
 }
 
 // The calls of a load are refused only if an allocation fails.
-fn end_of_refusal(node: u32, refusal: NoStep) -> End {
+fn stop_of_refusal(node: u32, refusal: NoStep) -> Stop {
     match refusal {
-        NoStep::NoMemory => End::NoMemory,
-        NoStep::OutOfTurn | NoStep::OtherCommittee | NoStep::HistoryFull => End::Unsettled { node },
+        NoStep::NoMemory => Stop::NoMemory,
+        NoStep::OutOfTurn | NoStep::OtherCommittee | NoStep::HistoryFull => Stop::Unsettled {
+            node,
+        },
     }
 }

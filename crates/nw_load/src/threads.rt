@@ -1,6 +1,6 @@
 //! The two threads of a node, each with a session of the node's store.
 use crate::client::Client;
-use crate::fault::End;
+use crate::fault::Stop;
 use crate::link::Link;
 use crate::network::{ClientChannel, Inbox, LinkChannels};
 use crate::node::LoadContext;
@@ -26,7 +26,7 @@ pub(crate) fn run_both<L: Home, R: Threads + Wait + Sync, G: Gate + Sync>(
     store: &Store<DemoScheme, L>,
     (first, second): (Session<DemoScheme, L>, Session<DemoScheme, L>),
     (to_client, from_link): (Sender<Digest>, Receiver<Digest>),
-) -> Result<Finished<L>, End> {
+) -> Result<Finished<L>, Stop> {
     thread::scope(thread::scope_env(), context.rt, move |scope| {
         match start_client(scope, context, node, store, second, from_link) {
             Ok(started) => {
@@ -34,33 +34,33 @@ pub(crate) fn run_both<L: Home, R: Threads + Wait + Sync, G: Gate + Sync>(
                 let (second, walked) = started.join(context.rt);
                 both_sessions(context.alloc, first, second, combined(linked, walked))
             }
-            Err(end) => {
+            Err(stop) => {
                 drop(first);
-                Err(end)
+                Err(stop)
             }
         }
     })
 }
 
-/// Both sessions and the number of blocks in the last list, or the end of a thread that ended early.
+/// Both sessions and the number of blocks in the last list, or why a thread ended early.
 fn both_sessions<L: Home>(
     alloc: Global,
     first: Session<DemoScheme, L>,
     second: Session<DemoScheme, L>,
-    last: Result<usize, End>,
-) -> Result<Finished<L>, End> {
+    last: Result<usize, Stop>,
+) -> Result<Finished<L>, Stop> {
     match last {
         Ok(last) => Ok((last, vec![in alloc; first, second]?)),
-        Err(end) => {
+        Err(stop) => {
             drop(first);
             drop(second);
-            Err(end)
+            Err(stop)
         }
     }
 }
 
 /// The client's session, and the number of blocks in its last list.
-type ClientOutcome<L> = (Session<DemoScheme, L>, Result<usize, End>);
+type ClientOutcome<L> = (Session<DemoScheme, L>, Result<usize, Stop>);
 
 /// Starts the client thread.
 fn start_client<'s, 'e, L: Home, R: Threads + Wait + Sync, G: Gate + Sync>(
@@ -70,19 +70,19 @@ fn start_client<'s, 'e, L: Home, R: Threads + Wait + Sync, G: Gate + Sync>(
     store: &'e Store<DemoScheme, L>,
     session: Session<DemoScheme, L>,
     from_link: Receiver<Digest>,
-) -> Result<JoinHandle<ClientOutcome<L>>, End> {
+) -> Result<JoinHandle<ClientOutcome<L>>, Stop> {
     match scope.spawn(move || run_client(context, node, store, session, from_link)) {
         Ok(started) => Ok(started),
-        Err(_) => Err(End::Spawn),
+        Err(_) => Err(Stop::Spawn),
     }
 }
 
-/// The result of the client if neither thread ended early, else the end whose kind comes first.
-fn combined(linked: Result<(), End>, walked: Result<usize, End>) -> Result<usize, End> {
+/// The result of the client if neither thread ended early, else the first reason in the order of `Stop`.
+fn combined(linked: Result<(), Stop>, walked: Result<usize, Stop>) -> Result<usize, Stop> {
     match (linked, walked) {
         (Ok(()), walked) => walked,
-        (Err(end), Ok(_)) => Err(end),
-        (Err(one), Err(other)) => Err(one.first_of(other)),
+        (Err(stop), Ok(_)) => Err(stop),
+        (Err(one), Err(other)) => Err(one.min(other)),
     }
 }
 
@@ -94,7 +94,7 @@ fn run_link<L: Home, R: Wait, G: Gate>(
     mut session: Session<DemoScheme, L>,
     inbox: &Inbox,
     to_client: Sender<Digest>,
-) -> (Session<DemoScheme, L>, Result<(), End>) {
+) -> (Session<DemoScheme, L>, Result<(), Stop>) {
     let linked = run_link_on(&*context, node, &*store, &mut session, &*inbox, to_client);
     if linked.is_err() {
         context.network.close(context.rt);
@@ -110,7 +110,7 @@ fn run_link_on<'a, L: Home, R: Wait, G: Gate>(
     session: &'a mut Session<DemoScheme, L>,
     inbox: &'a Inbox,
     to_client: Sender<Digest>,
-) -> Result<(), End> {
+) -> Result<(), Stop> {
     let store = LinkCalls {
         node: u32::from(node),
         store,
@@ -149,7 +149,7 @@ fn run_client_on<'a, L: Home, R: Wait, G: Gate>(
     store: &'a Store<DemoScheme, L>,
     session: &'a mut Session<DemoScheme, L>,
     from_link: Receiver<Digest>,
-) -> Result<usize, End> {
+) -> Result<usize, Stop> {
     let store = ClientCalls {
         node: u32::from(node),
         store,

@@ -3,6 +3,7 @@ use Rattle.std.proofs.Common.{◌≡◌, ◌⊎◌, ℕ, ◌+◌, ◌<◌, ◌�
 use Rattle.std.specs.Prelude.{Contains, ◌==◌}
 use Rattle.std.specs.FinMap.{FinMap, get, insert}
 use Rattle.std.proofs.lemmas.List.Elements.{All-contains, Contains-get_or, Contains-push, Contains-push_cases}
+use Rattle.std.proofs.lemmas.Option.{none-some}
 use Rattle.nw_digest.specs.declared.digest.Digest.{Digest}
 use Rattle.nw_codec.specs.declared.block.Block.{Block}
 use Rattle.nw_digest.specs.Order.{Slot, slot_cmp}
@@ -11,7 +12,7 @@ use Rattle.nw_model.specs.View.{Frozen, HasParent, IsClosed, HasBlock, IsParentI
 use Rattle.nw_model.specs.Search.{IsUnderSlot, AreUnderSlots, AreAbove, IsFoundAt, IsParentOfAny, Finds, FindsAncestors}
 use Rattle.nw_model.proofs.Complete.{one_block}
 use Rattle.nw_model.proofs.Kept.{after_slot, at_slot}
-use Rattle.nw_model.proofs.Finding.{under_more, none_some}
+use Rattle.nw_model.proofs.Finding.{under_more}
 
 -- the block under e is of the round that the search has reached. The counter starts at the floor and counts its rounds
 abbrev pub IsAt : Frozen → ℕ → ℕ → Digest → Type 0
@@ -27,7 +28,7 @@ pub record Explores (v : Frozen) (d : Digest) (found : FinMap slot_cmp Digest) (
   pub whole : (slot : Slot) (e : Digest) → get found slot ≡ Some e → Contains frontier e ⊎ ((f : Digest) → IsParentIn v e f → IsFoundAt v found f)
 
 -- a path to a digest continues to its parents
-path_on : (v : Frozen) (d e f : Digest) (path : List Digest) → IsPathIn v d path e → IsParentIn v e f → (b : Block) × HasBlock v f b → IsPathIn v d (path ++ f ∷ []) f
+pub path_on : (v : Frozen) (d e f : Digest) (path : List Digest) → IsPathIn v d path e → IsParentIn v e f → (b : Block) × HasBlock v f b → IsPathIn v d (path ++ f ∷ []) f
 path_on v d e f [] (there, same) parent last = (subst (λ q. IsParentIn v q f) (sym same) parent, (last, refl))
 path_on v d e f (next ∷ path) (step, on) parent last = (step, path_on v next e f path on parent last)
 
@@ -52,18 +53,18 @@ pub explores_first : (v : Frozen) (d : Digest) (b : Block) (empty : FinMap slot_
 explores_first v d b empty there none = record {
   under = λ slot e at. elim (after_slot empty (block_slot b) d slot e at) [
     | inl new ↦ subst (λ q. IsUnderSlot v slot q) new.1 (b, there, sym new.0)
-    | inr old ↦ absurd (none_some e (sym (none slot) ∙ old))
+    | inr old ↦ absurd (none-some e (sym (none slot) ∙ old))
   ];
   only = λ slot e at. elim (after_slot empty (block_slot b) d slot e at) [
     | inl new ↦ ([], ((b, there), new.1))
-    | inr old ↦ absurd (none_some e (sym (none slot) ∙ old))
+    | inr old ↦ absurd (none-some e (sym (none slot) ∙ old))
   ];
   first = (b, there.0, at_slot empty (block_slot b) d);
   level = λ e among. subst (λ q. IsAt v v.floor b.round q) (itself e among) (b, there.0, refl);
   reached = λ e among. ([], ((b, there), itself e among));
   whole = λ slot e at. elim (after_slot empty (block_slot b) d slot e at) [
     | inl new ↦ inl (subst (λ q. Contains (d ∷ []) q) new.1 (Contains-push [] d))
-    | inr old ↦ absurd (none_some e (sym (none slot) ∙ old))
+    | inr old ↦ absurd (none-some e (sym (none slot) ∙ old))
   ];
 }
   where

@@ -1,7 +1,8 @@
 -- Calls keep the entries of a state, except those that a collection drops.
-use Rattle.std.proofs.Common.{◌≡◌, ℕ, ◌≤◌, Bool, false, List, [], ◌∷◌, Option, Some, None, is_some, refl, arith}
+use Rattle.std.proofs.Common.{◌≡◌, ℕ, ◌≤◌, Bool, List, [], ◌∷◌, Some, None, is_some, refl, arith}
 use Rattle.std.specs.FinMap.{get}
 use Rattle.nw_digest.specs.declared.digest.Digest.{Digest}
+use Rattle.nw_digest.proofs.Found.{is_absent}
 use Rattle.nw_codec.specs.declared.block.Block.{Block}
 use Rattle.nw_codec.specs.declared.certificate.Certificate.{Certificate}
 use Rattle.nw_model.specs.State.{State}
@@ -44,10 +45,6 @@ carries_on s t u one two =
       certificates = λ d c at high. two.certificates d c (one.certificates d c at (omega arith)) high;
     }
 
-none_is : {X : Type 0} (found : Option X) → is_some found ≡ false → found ≡ None
-none_is None e = refl
-none_is (Some x) e = absurd cc
-
 -- a block is stored only if none is held under its digest
 pub stored_anew : (bounds : Bounds) (s : State) (d : Digest) (b : Block) (vote : Bool) → write_reply bounds s d b ≡ write.Stored vote → get s.blocks d ≡ None
 stored_anew bounds s d b vote is =
@@ -55,16 +52,16 @@ stored_anew bounds s d b vote is =
     let far = past is_stored _ write.TooFar _ (write.Stored vote) refl refl low.1 in
     let held = past is_stored _ write.Held _ (write.Stored vote) refl refl far.1 in
     let clash = past is_stored (is_some (get s.blocks d)) write.Clash _ (write.Stored vote) refl refl held.1 in
-    none_is (get s.blocks d) clash.0
+    is_absent (get s.blocks d) clash.0
 
 -- a certificate is kept only if its digest is not certified
-certified_anew : (bounds : Bounds) (s : State) (c : Certificate) → certify_reply bounds s c ≡ certify.Certified → get s.certificates c.digest ≡ None
+pub certified_anew : (bounds : Bounds) (s : State) (c : Certificate) → certify_reply bounds s c ≡ certify.Certified → get s.certificates c.digest ≡ None
 certified_anew bounds s c is =
     let low = past is_certified _ (certify.Collected s.floor) _ certify.Certified refl refl is in
     let far = past is_certified _ certify.TooFar _ certify.Certified refl refl low.1 in
     let already = past is_certified _ certify.Already _ certify.Certified refl refl far.1 in
     let misfit = past is_certified (is_some (get s.certificates c.digest)) certify.Misfit _ certify.Certified refl refl already.1 in
-    none_is (get s.certificates c.digest) misfit.0
+    is_absent (get s.certificates c.digest) misfit.0
 
 carries_after_write : (bounds : Bounds) (s : State) (d : Digest) (b : Block) (r : WriteReply) → write_reply bounds s d b ≡ r → Carries s (after_write s d b r)
 carries_after_write bounds s d b (write.Stored vote) is = record {

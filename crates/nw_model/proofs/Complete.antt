@@ -4,10 +4,12 @@ use Rattle.std.specs.Prelude.{Contains}
 use Rattle.std.specs.Ordering.{nat_cmp, is_le}
 use Rattle.std.specs.FinMap.{FinMap, get}
 use Rattle.std.proofs.lemmas.List.Elements.{All-contains, Contains-get_or}
+use Rattle.std.proofs.lemmas.Option.{none-some}
 use Rattle.nw_digest.specs.declared.digest.Digest.{Digest}
 use Rattle.nw_codec.specs.declared.block.Ref.{Ref}
 use Rattle.nw_codec.specs.declared.block.Block.{Block}
 use Rattle.nw_digest.specs.Order.{digest_cmp}
+use Rattle.nw_digest.proofs.Found.{which}
 use Rattle.nw_model.specs.State.{State}
 use Rattle.nw_model.specs.Paths.{IsStanding, IsSatisfied, IsParent, IsPath, IsComplete}
 use Rattle.nw_model.specs.Sound.{IsSound}
@@ -58,10 +60,7 @@ complete_from_parents s d b sound stands how = record {
 -- ---- parents among blocks
 
 pub no_parent : (blocks : FinMap digest_cmp Block) (round : ℕ) (r : Ref) → get blocks r.digest ≡ None → HasParent blocks round r → ⊥
-no_parent blocks round r none (p, at, author, before) = none_some p (sym none ∙ at)
-  where
-    none_some : (p : Block) → None ≡ Some p → ⊥
-    none_some p e = cc
+no_parent blocks round r none (p, at, author, before) = none-some p (sym none ∙ at)
 
 pub one_parent : (blocks : FinMap digest_cmp Block) (round : ℕ) (r : Ref) (p : Block) → get blocks r.digest ≡ Some p → HasParent blocks round r ↔ ((p.author ≡ r.author) × (p.round + 1 ≡ round))
 one_parent blocks round r p at = (
@@ -122,17 +121,13 @@ closed s v sound floor are = record {
   apart = λ d e b c at_d at_e above same.
       let one = (are d b).0 at_d in
       let other = (are e c).0 at_e in
-      let for_d = is_some_then (certified d one.1) in
-      let for_e = is_some_then (certified e other.1) in
+      let for_d = which _ (certified d one.1) in
+      let for_e = which _ (certified e other.1) in
       sound.one_certificate d e for_d.0 for_e.0 for_d.1 for_e.1 (sym (sound.one_slot d b for_d.0 one.0 for_d.1) ∙ same ∙ sound.one_slot e c for_e.0 other.0 for_e.1);
 }
   where
     certified : (d : Digest) → IsComplete s d → IsSome (get s.certificates d)
     certified d whole = whole.stands.1.1
-
-    is_some_then : {X : Type 0} {found : Option X} → IsSome found → (x : X) × (found ≡ Some x)
-    is_some_then {found = Some x} h = (x, refl)
-    is_some_then {found = None} h = absurd cc
 
 -- the complete blocks show the state
 pub shown : (s : State) (v : Frozen) → v.floor ≡ s.floor → AreComplete s v.blocks → Shows v s

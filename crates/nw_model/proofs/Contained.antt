@@ -1,5 +1,5 @@
 -- A causal list contains the causal list of each of its blocks.
-use Rattle.std.proofs.Common.{◌≡◌, ◌↔◌, ◌⊎◌, ℕ, zero, suc, ◌+◌, ◌≤◌, Bool, true, false, cond, List, [], ◌∷◌, ◌++◌, Option, Some, None, IsSome, map, refl, sym, subst, arith, inl, inr}
+use Rattle.std.proofs.Common.{◌≡◌, ◌⊎◌, ℕ, zero, suc, ◌+◌, ◌≤◌, Bool, true, false, cond, List, [], ◌∷◌, ◌++◌, Option, Some, None, IsSome, map, refl, sym, subst, arith, inl, inr}
 use Rattle.std.specs.Prelude.{Contains, filter, ◌==◌}
 use Rattle.std.specs.List.{AllByRecursion}
 use Rattle.std.specs.List.Sorted.{IsStrictlySortedBy}
@@ -16,10 +16,9 @@ use Rattle.nw_digest.specs.Order.{digest_cmp}
 use Rattle.nw_model.specs.State.{State}
 use Rattle.nw_model.specs.Paths.{block_cmp, IsStanding, IsSatisfied, IsParent, IsPath, IsAncestor, IsComplete, IsCausalList}
 use Rattle.nw_model.specs.Laws.{CausalListsContainThoseOfTheirBlocks}
-use Rattle.nw_model.proofs.Maps.{digests_total}
-use Rattle.nw_model.proofs.Kept.{same_digest}
+use Rattle.nw_digest.proofs.Maps.{digests_total, same_digest}
 use Rattle.nw_model.proofs.Complete.{one_block, parent_complete}
-use Rattle.nw_model.proofs.Listed.{contains_first, contains_later, contains_cases, contains_none}
+use Rattle.nw_digest.proofs.Elements.{contains_first, contains_later, contains_cases, contains_none, contains_filter}
 
 -- ---- paths
 
@@ -222,30 +221,6 @@ passing_found held test (d ∷ digests) (b ∷ blocks) found =
     by first true rest = cc
     by first false rest = rest
 
--- a filter keeps exactly the elements that pass
-pub kept : {X : Type 0} (test : X → Bool) (xs : List X) (x : X) → Contains (filter test xs) x ↔ (Contains xs x × (test x ≡ true))
-kept test [] x = (λ among. absurd (contains_none x among), λ both. absurd (contains_none x both.0))
-kept test (y ∷ ys) x = by (test y) refl (kept test ys x)
-  where
-    by : (t : Bool) → test y ≡ t → Contains (filter test ys) x ↔ (Contains ys x × (test x ≡ true)) → Contains (cond t (y ∷ filter test ys) (filter test ys)) x ↔ (Contains (y ∷ ys) x × (test x ≡ true))
-    by true is rest = (
-      λ among. elim (contains_cases y (filter test ys) x among) [
-        | inl same ↦ (subst (λ z. Contains (y ∷ ys) z) same (contains_first y ys), subst (λ z. test z ≡ true) same is)
-        | inr later ↦ let both = rest.0 later in (contains_later y ys x both.0, both.1)
-      ],
-      λ both. elim (contains_cases y ys x both.0) [
-        | inl same ↦ subst (λ z. Contains (y ∷ filter test ys) z) same (contains_first y (filter test ys))
-        | inr later ↦ contains_later y (filter test ys) x (rest.1 (later, both.1))
-      ],
-    )
-    by false is rest = (
-      λ among. let both = rest.0 among in (contains_later y ys x both.0, both.1),
-      λ both. elim (contains_cases y ys x both.0) [
-        | inl same ↦ let wrong : test y ≡ true = subst (λ z. test z ≡ true) (sym same) both.1 in absurd cc
-        | inr later ↦ rest.1 (later, both.1)
-      ],
-    )
-
 pub holds_so : {P : Type 0} (decided : Decided P) → holds decided ≡ true → P
 holds_so (inl p) e = p
 holds_so (inr refuted) e = absurd cc
@@ -265,8 +240,8 @@ causal_list_within s d e blocks ancestor listed =
       digests = filter test listed.digests;
       found = passing_found s.blocks test listed.digests blocks listed.found;
       exactly = λ a. (
-        λ among. holds_so (is_ancestor_decided s e a) ((kept test listed.digests a).0 among).1,
-        λ below. (kept test listed.digests a).1 ((listed.exactly a).1 (ancestor_joined s d e a ancestor below), so_holds (is_ancestor_decided s e a) below),
+        λ among. holds_so (is_ancestor_decided s e a) ((contains_filter test listed.digests a).0 among).1,
+        λ below. (contains_filter test listed.digests a).1 ((listed.exactly a).1 (ancestor_joined s d e a ancestor below), so_holds (is_ancestor_decided s e a) below),
       );
       ascending = passing_sorted block_cmp test listed.digests blocks listed.ascending;
     }

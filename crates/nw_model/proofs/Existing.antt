@@ -1,5 +1,5 @@
 -- Each digest of a sound state has one causal list.
-use Rattle.std.proofs.Common.{◌≡◌, ◌↔◌, List, [], ◌∷◌, Option, Some, None, IsSome, is_some, map, refl, ap, sym, ◌∙◌, subst, inl, inr}
+use Rattle.std.proofs.Common.{◌≡◌, ◌↔◌, List, [], ◌∷◌, Some, is_some, map, refl, ap, sym, ◌∙◌, subst, inl, inr}
 use Rattle.std.specs.Prelude.{Contains, filter}
 use Rattle.std.specs.List.{AllByRecursion}
 use Rattle.std.specs.List.Sorted.{IsStrictlySortedBy}
@@ -19,10 +19,11 @@ use Rattle.nw_model.specs.State.{State, block_slot}
 use Rattle.nw_model.specs.Sound.{IsSound}
 use Rattle.nw_model.specs.Paths.{IsStanding, IsPath, IsAncestor, IsCausalList, Lists}
 use Rattle.nw_model.specs.Laws.{CompleteDigestsHaveOneCausalList}
-use Rattle.nw_model.proofs.Maps.{slots_total, slots_apart}
-use Rattle.nw_model.proofs.Kept.{same_digest}
-use Rattle.nw_model.proofs.Listed.{contains_first, contains_later, contains_cases, same_lists}
-use Rattle.nw_model.proofs.Contained.{is_ancestor_decided, holds, holds_so, so_holds, kept}
+use Rattle.nw_digest.proofs.Maps.{slots_total, slots_apart, same_digest}
+use Rattle.nw_digest.proofs.Elements.{contains_first, contains_later, contains_cases, contains_filter}
+use Rattle.nw_digest.proofs.Found.{which}
+use Rattle.nw_model.proofs.Listed.{same_lists}
+use Rattle.nw_model.proofs.Contained.{is_ancestor_decided, holds, holds_so, so_holds}
 use Rattle.nw_model.proofs.Walked.{ascending_by_slot}
 
 -- ---- sorting a list
@@ -154,15 +155,11 @@ last_stands : (s : State) (d : Digest) (path : List Digest) (a : Digest) → IsP
 last_stands s d [] a on = (on.0.0, subst (λ q. IsStanding s q on.0.0) on.1 on.0.1)
 last_stands s d (e ∷ path) a on = last_stands s e path a on.1
 
-is_some_then : {X : Type 0} (found : Option X) → IsSome found → (x : X) × (found ≡ Some x)
-is_some_then None h = absurd cc
-is_some_then (Some x) h = (x, refl)
-
 -- in a sound state, two digests that stand with blocks of one slot are equal
 one_standing : (s : State) (x y : Digest) (b c : Block) → IsSound s → IsStanding s x b → IsStanding s y c → by_slot s.blocks x y ≡ Equal → x ≡ y
 one_standing s x y b c sound at_x at_y tied =
-    let of_x = is_some_then (get s.certificates x) at_x.1 in
-    let of_y = is_some_then (get s.certificates y) at_y.1 in
+    let of_x = which (get s.certificates x) at_x.1 in
+    let of_y = which (get s.certificates y) at_y.1 in
     let slot_x : slot_under s.blocks x ≡ block_slot b = ap (λ q. option_map_or block_slot q (0, 0)) at_x.0 in
     let slot_y : slot_under s.blocks y ≡ block_slot c = ap (λ q. option_map_or block_slot q (0, 0)) at_y.0 in
     let same : slot_under s.blocks x ≡ slot_under s.blocks y = slots_apart (slot_under s.blocks x) (slot_under s.blocks y) tied in
@@ -177,10 +174,10 @@ ancestors_listed : (s : State) (d : Digest) → (digests : List Digest) × ((a :
 ancestors_listed s d = (
   filter (λ a. holds (is_ancestor_decided s d a)) (keys s.blocks),
   λ a. (
-    λ among. holds_so (is_ancestor_decided s d a) ((kept (λ q. holds (is_ancestor_decided s d q)) (keys s.blocks) a).0 among).1,
+    λ among. holds_so (is_ancestor_decided s d a) ((contains_filter (λ q. holds (is_ancestor_decided s d q)) (keys s.blocks) a).0 among).1,
     λ ancestor.
         let last = last_stands s d ancestor.0 a ancestor.1 in
-        (kept (λ q. holds (is_ancestor_decided s d q)) (keys s.blocks) a).1 (held_among s.blocks a last.0 last.1.0, so_holds (is_ancestor_decided s d a) ancestor),
+        (contains_filter (λ q. holds (is_ancestor_decided s d q)) (keys s.blocks) a).1 (held_among s.blocks a last.0 last.1.0, so_holds (is_ancestor_decided s d a) ancestor),
   ),
 )
 

@@ -1,5 +1,5 @@
 -- A search finds digests one after the other.
-use Rattle.std.proofs.Common.{◌≡◌, ◌↔◌, ◌⊎◌, ℕ, ◌+◌, ◌<◌, ◌≤◌, true, false, List, [], ◌∷◌, ◌++◌, Option, Some, None, All, is_some, length, take, get_or, refl, ap, sym, ◌∙◌, subst, arith, inl, inr}
+use Rattle.std.proofs.Common.{◌≡◌, ◌↔◌, ◌⊎◌, ℕ, ◌+◌, ◌<◌, ◌≤◌, true, false, List, [], ◌∷◌, ◌++◌, Some, All, is_some, length, take, get_or, ap, sym, ◌∙◌, subst, arith, inl, inr}
 use Rattle.std.specs.Prelude.{Contains}
 use Rattle.std.specs.FinMap.{FinMap, get, insert}
 use Rattle.std.proofs.lemmas.List.{take_more}
@@ -8,14 +8,12 @@ use Rattle.nw_digest.specs.declared.digest.Digest.{Digest}
 use Rattle.nw_codec.specs.declared.block.Ref.{Ref}
 use Rattle.nw_codec.specs.declared.block.Block.{Block}
 use Rattle.nw_digest.specs.Order.{slot_cmp}
+use Rattle.nw_digest.proofs.Found.{which, is_absent}
 use Rattle.nw_model.specs.State.{block_slot}
 use Rattle.nw_model.specs.View.{Frozen, IsClosed, HasBlock, IsParentIn}
 use Rattle.nw_model.specs.Search.{IsUnderSlot, AreUnderSlots, IsFoundAt, IsNamed, IsParentOfAny, Finds}
 use Rattle.nw_model.proofs.Complete.{one_block}
 use Rattle.nw_model.proofs.Kept.{after_slot, at_slot, still_slot}
-
-pub none_some : {X : Type 0} (x : X) → None ≡ Some x → ⊥
-none_some x e = cc
 
 -- ---- steps of a search
 
@@ -62,14 +60,6 @@ under_more v P a b xs ys one under slot e at = elim (one.adds slot e at) [
   | inr new ↦ new.2
 ]
 
-is_some_then : {X : Type 0} (found : Option X) → is_some found ≡ true → (x : X) × (found ≡ Some x)
-is_some_then None e = absurd cc
-is_some_then (Some x) e = (x, refl)
-
-is_none_then : {X : Type 0} (found : Option X) → is_some found ≡ false → found ≡ None
-is_none_then None e = refl
-is_none_then (Some x) e = absurd cc
-
 -- if the slot is taken, the digest was found before
 pub finds_again : (v : Frozen) (found : FinMap slot_cmp Digest) (listed : List Digest) (d : Digest) (b : Block)
     → IsClosed v → AreUnderSlots v found → get v.blocks d ≡ Some b → is_some (get found (block_slot b)) ≡ true → Finds v (λ e. d ≡ e) found found listed listed
@@ -83,7 +73,7 @@ finds_again v found listed d b closed under at taken = record {
   where
     here : get found (block_slot b) ≡ Some d
     here =
-        let there = is_some_then (get found (block_slot b)) taken in
+        let there = which (get found (block_slot b)) taken in
         let held = under (block_slot b) there.0 there.1 in
         there.1 ∙ ap Some (closed.apart there.0 d held.0 b held.1.0 at held.1.1 held.2)
 
@@ -91,7 +81,7 @@ finds_again v found listed d b closed under at taken = record {
 pub finds_one : (v : Frozen) (found : FinMap slot_cmp Digest) (listed : List Digest) (d : Digest) (b : Block)
     → HasBlock v d b → is_some (get found (block_slot b)) ≡ false → Finds v (λ e. d ≡ e) found (insert found (block_slot b) d) listed (listed ++ d ∷ [])
 finds_one v found listed d b there free = record {
-  keeps = λ slot e h. still_slot found (block_slot b) d slot e (is_none_then (get found (block_slot b)) free) h;
+  keeps = λ slot e h. still_slot found (block_slot b) d slot e (is_absent (get found (block_slot b)) free) h;
   finds = λ e same. subst (λ q. IsFoundAt v (insert found (block_slot b) d) q) same (b, there.0, at_slot found (block_slot b) d);
   adds = λ slot e h. elim (after_slot found (block_slot b) d slot e h) [
     | inl new ↦ inr (subst (λ q. Contains (listed ++ d ∷ []) q) new.1 (Contains-push listed d), new.1, subst (λ q. IsUnderSlot v slot q) new.1 (b, there, sym new.0))

@@ -1,5 +1,5 @@
 -- A slot with a first digest gets no vote from then on.
-use Rattle.std.proofs.Common.{◌≡◌, ◌⊎◌, ℕ, zero, suc, ◌≤◌, ◌<◌, inl, inr, arith, Bool, true, false, not, cond, List, [], ◌∷◌, Option, Some, None, IsSome, is_some, refl, ap, sym, subst}
+use Rattle.std.proofs.Common.{◌≡◌, ◌⊎◌, ℕ, zero, suc, ◌≤◌, ◌<◌, inl, inr, arith, Bool, true, false, not, cond, List, [], ◌∷◌, Option, Some, IsSome, is_some, refl, ap, sym, subst}
 use Rattle.std.specs.Prelude.{nat_lt, nat_le, slice_get}
 use Rattle.std.specs.Ordering.{eq_by_cmp}
 use Rattle.std.specs.FinMap.{get, insert, get-insert, len}
@@ -20,7 +20,8 @@ use Rattle.nw_model.specs.declared.reply.CertifyReply.{CertifyReply}
 use Rattle.nw_model.specs.declared.reply.CertifyReply.TheVariants as certify
 use Rattle.nw_model.specs.declared.reply.CollectReply.{CollectReply}
 use Rattle.nw_model.specs.declared.reply.CollectReply.TheVariants as collect
-use Rattle.nw_model.proofs.Maps.{slots_total}
+use Rattle.nw_digest.proofs.Maps.{slots_total}
+use Rattle.nw_digest.proofs.Found.{is_there}
 use Rattle.nw_model.proofs.Replayed.{past, past_found, is_stored, not_below}
 use Rattle.nw_model.proofs.Raised.{slot_is_kept}
 use Rattle.nw_model.proofs.Kept.{at_slot}
@@ -107,15 +108,11 @@ spends bounds s slot e is (d, b, is_call, is_reply, here) =
     let at : IsReply bounds s (call.Write d b) (reply.Write (write.Stored true)) = subst (λ c. IsReply bounds s c (reply.Write (write.Stored true))) is_call (subst (λ r. IsReply bounds s e.call r) is_reply is) in
     let stored : write_reply bounds s d b ≡ write.Stored true = sym (the_reply at) in
     let first : get (after_write s d b (write.Stored true)).firsts (block_slot b) ≡ Some d = at_slot s.firsts (block_slot b) d in
-    let spent : IsSpent (after_write s d b (write.Stored true)) slot = inl (subst (λ q. IsSome (get (insert s.firsts (block_slot b) d) q)) here (some_is _ d first)) in
+    let spent : IsSpent (after_write s d b (write.Stored true)) slot = inl (subst (λ q. IsSome (get (insert s.firsts (block_slot b) d) q)) here (is_there _ d first)) in
     subst (λ c. IsSpent (after bounds s c) slot) (sym is_call) (subst (λ r. IsSpent (after_write s d b r) slot) (sym stored) spent)
   where
     the_reply : {x y : WriteReply} → x ≡ y → x ≡ y
     the_reply e = e
-
-    some_is : {X : Type 0} (found : Option X) (x : X) → found ≡ Some x → IsSome found
-    some_is None x e = absurd cc
-    some_is (Some y) x e = refl
 
 -- no later event votes for it
 none_votes : (bounds : Bounds) (s : State) (es : List Event) (slot : Slot) → AreReplies bounds s es → IsSpent s slot → (j : ℕ) (e : Event) → slice_get es j ≡ Some e → IsVotingEvent slot e → ⊥

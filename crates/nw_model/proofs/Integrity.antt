@@ -3,6 +3,7 @@ use Rattle.std.proofs.Common.{◌≡◌, ◌≢◌, ◌⊎◌, ℕ, zero, suc, �
 use Rattle.std.specs.Prelude.{nat_le, slice_get, All}
 use Rattle.std.specs.FinMap.{get}
 use Rattle.std.proofs.lemmas.List.Elements.{All-head, All-tail}
+use Rattle.std.proofs.lemmas.Option.{same_Some}
 use Rattle.nw_digest.specs.declared.digest.Digest.{Digest}
 use Rattle.nw_codec.specs.declared.block.Block.{Block}
 use Rattle.nw_codec.specs.declared.certificate.Certificate.{Certificate}
@@ -10,7 +11,7 @@ use Rattle.nw_codec.specs.Same.{same_block}
 use Rattle.nw_committee.specs.declared.member.Member.{Member}
 use Rattle.nw_sig.specs.Signed.{Meaning}
 use Rattle.nw_model.specs.State.{State}
-use Rattle.nw_model.specs.Checks.{digest_of}
+use Rattle.nw_model.specs.Checks.{digest_of, IsWellFormed, IsValid}
 use Rattle.nw_model.specs.Sound.{IsSound}
 use Rattle.nw_model.specs.Step.{Bounds, IsReply, after, after_write, after_certify, after_collect, write_reply, certify_reply, collect_reply}
 use Rattle.nw_model.specs.History.{Terms, IsLegal, AreReplies, IsAdmitted}
@@ -75,16 +76,13 @@ read_held bounds s e d b is read =
 read_leaves : (bounds : Bounds) (s : State) (e : Event) (d : Digest) (b : Block) → IsReadOf d b e → after bounds s e.call ≡ s
 read_leaves bounds s e d b read = ap (after bounds s) read.0
 
-same_event : (e f : Event) → Some e ≡ Some f → e ≡ f
-same_event e f is = cc
-
 -- a later read gives the block that is held now, or an event before it raised the garbage round above the block's round
 reads_on : (bounds : Bounds) (s : State) (es : List Event) (d : Digest) (b c : Block) → AreReplies bounds s es → get s.blocks d ≡ Some b → s.floor ≤ b.round
     → (j : ℕ) (f : Event) → slice_get es j ≡ Some f → IsReadOf d c f
     → (b ≡ c) ⊎ ((k : ℕ) × (e : Event) × (k < j) × (slice_get es k ≡ Some e) × RaisesAbove b.round e)
 reads_on bounds s [] d b c are held low j f at read = absurd cc
 reads_on bounds s (x ∷ es) d b c are held low zero f at read =
-    inl (one_block b c held (read_held bounds s x d c are.0 (subst (IsReadOf d c) (sym (same_event x f at)) read)))
+    inl (one_block b c held (read_held bounds s x d c are.0 (subst (IsReadOf d c) (sym (same_Some x f at)) read)))
 reads_on bounds s (x ∷ es) d b c are held low (suc j) f at read = by (nat_le (after bounds s x.call).floor b.round) refl
     (λ below. reads_on bounds (after bounds s x.call) es d b c are.2 ((carries_after bounds s x.call).blocks d b held below) below j f at read)
   where
@@ -103,7 +101,7 @@ reads_between : (bounds : Bounds) (s : State) (es : List Event) (d : Digest) (b 
 reads_between bounds s [] d b c sound are i j e f order at_i at_j read_e read_f = absurd cc
 reads_between bounds s (x ∷ es) d b c sound are i zero e f order at_i at_j read_e read_f = absurd (omega arith)
 reads_between bounds s (x ∷ es) d b c sound are zero (suc j) e f order at_i at_j read_e read_f =
-    let read : IsReadOf d b x = subst (IsReadOf d b) (sym (same_event x e at_i)) read_e in
+    let read : IsReadOf d b x = subst (IsReadOf d b) (sym (same_Some x e at_i)) read_e in
     let held : get s.blocks d ≡ Some b = read_held bounds s x d b are.0 read in
     let leaves : after bounds s x.call ≡ s = read_leaves bounds s x d b read in
     let on : AreReplies bounds s es = subst (λ (q : State). AreReplies bounds q es) leaves are.2 in
@@ -117,26 +115,33 @@ reads_between bounds s (x ∷ es) d b c sound are (suc i) (suc j) e f order at_i
       | inr later ↦ inr (suc later.0, later.1, omega (arith, later.2), omega (arith, later.3), later.4, later.5)
     ]
 
--- a call with this reply is the read of the block's digest
-read_call : (accepts : Meaning) (members : List Member) (bounds : Bounds) (s : State) (asked : Call) (b : Block) → AreAdmitted accepts members s → IsReply bounds s asked (reply.Read (Some b)) → asked ≡ call.Read (digest_of b)
-read_call accepts members bounds s (call.Read d) b admitted is = ap call.Read (admitted d b (sym is)).0
-read_call accepts members bounds s other b admitted is = absurd is
+-- what a reply gives was admitted: a block that a read gives is well formed, and the read asks for its digest; a certificate is valid
+abbrev pub GivesAdmitted : Meaning → List Member → Call → Reply → Type 0
+GivesAdmitted accepts members asked (reply.Read (Some b)) = (asked ≡ call.Read (digest_of b)) × IsWellFormed accepts members b
+GivesAdmitted accepts members asked (reply.Certificate (Some c)) = IsValid accepts members c
+GivesAdmitted accepts members asked other = Unit {0}
 
-read_named : (accepts : Meaning) (members : List Member) (bounds : Bounds) (s : State) (es : List Event) (b : Block)
-    → AreAdmitted accepts members s → AreReplies bounds s es → All (λ e. IsAdmitted accepts members e.call) es → (i : ℕ) (e : Event) → slice_get es i ≡ Some e → e.reply ≡ reply.Read (Some b) → e.call ≡ call.Read (digest_of b)
-read_named accepts members bounds s [] b admitted are each i e at replied = absurd cc
-read_named accepts members bounds s (x ∷ es) b admitted are each zero e at replied =
-    let same : x ≡ e = same_event x e at in
-    read_call accepts members bounds s e.call b admitted (subst (IsReply bounds s e.call) replied (subst (λ (y : Event). IsReply bounds s y.call y.reply) same are.0))
-read_named accepts members bounds s (x ∷ es) b admitted are each (suc i) e at replied =
-    read_named accepts members bounds (after bounds s x.call) es b
+gives_admitted : (accepts : Meaning) (members : List Member) (bounds : Bounds) (s : State) (asked : Call) (given : Reply) → AreAdmitted accepts members s → IsReply bounds s asked given → GivesAdmitted accepts members asked given
+gives_admitted accepts members bounds s (call.Read d) (reply.Read (Some b)) admitted is = let own = admitted.blocks d b (sym is) in (ap call.Read own.0, own.1)
+gives_admitted accepts members bounds s (call.Certificate d) (reply.Certificate (Some c)) admitted is = admitted.certificates d c (sym is)
+gives_admitted accepts members bounds s other (reply.Read (Some b)) admitted is = absurd is
+gives_admitted accepts members bounds s other (reply.Certificate (Some c)) admitted is = absurd is
+gives_admitted accepts members bounds s asked other admitted is = tt
+
+all_give_admitted : (accepts : Meaning) (members : List Member) (bounds : Bounds) (s : State) (es : List Event)
+    → AreAdmitted accepts members s → AreReplies bounds s es → All (λ e. IsAdmitted accepts members e.call) es → (i : ℕ) (e : Event) → slice_get es i ≡ Some e → GivesAdmitted accepts members e.call e.reply
+all_give_admitted accepts members bounds s [] admitted are each i e at = absurd cc
+all_give_admitted accepts members bounds s (x ∷ es) admitted are each zero e at =
+    subst (λ (y : Event). GivesAdmitted accepts members y.call y.reply) (same_Some x e at) (gives_admitted accepts members bounds s x.call x.reply admitted are.0)
+all_give_admitted accepts members bounds s (x ∷ es) admitted are each (suc i) e at =
+    all_give_admitted accepts members bounds (after bounds s x.call) es
     (admitted_after accepts members bounds s x.call (All-head (λ (y : Event). IsAdmitted accepts members y.call) x es each) admitted)
-    are.2 (All-tail (λ (y : Event). IsAdmitted accepts members y.call) x es each) i e at replied
+    are.2 (All-tail (λ (y : Event). IsAdmitted accepts members y.call) x es each) i e at
 
--- in a legal history, each event that found a block is the read of the block's digest
-pub found_by : (accepts : Meaning) (terms : Terms) (base : State) (es : List Event) (b : Block) → IsLegal accepts terms base es
-    → (i : ℕ) (e : Event) → slice_get es i ≡ Some e → e.reply ≡ reply.Read (Some b) → e.call ≡ call.Read (digest_of b)
-found_by accepts terms base es b legal = read_named accepts terms.committee terms.bounds base es b (admitted_base accepts terms base legal.based) legal.replies legal.admitted
+-- in a legal history, what each reply gives was admitted
+pub gives_what_was_admitted : (accepts : Meaning) (terms : Terms) (base : State) (es : List Event) → IsLegal accepts terms base es
+    → (i : ℕ) (e : Event) → slice_get es i ≡ Some e → GivesAdmitted accepts terms.committee e.call e.reply
+gives_what_was_admitted accepts terms base es legal = all_give_admitted accepts terms.committee terms.bounds base es (admitted_base accepts terms base legal.based) legal.replies legal.admitted
 
 -- the digest that a read asks for
 abbrev digest_asked : Call → Digest → Digest
@@ -154,8 +159,8 @@ reads_agree accepts terms base es legal d b c i j e f order at_i at_j read_e rea
     by true is = inl ((same_block_decides b c).0 is)
     by false is =
         let differ : b ≢ c = λ same. let wrong : same_block b c ≡ true = (same_block_decides b c).1 same in absurd cc in
-        let first : digest_of b ≡ d = reads_one e.call (digest_of b) d (found_by accepts terms base es b legal i e at_i read_e.1) read_e.0 in
-        let second : digest_of c ≡ d = reads_one f.call (digest_of c) d (found_by accepts terms base es c legal j f at_j read_f.1) read_f.0 in
+        let first : digest_of b ≡ d = reads_one e.call (digest_of b) d (subst (GivesAdmitted accepts terms.committee e.call) read_e.1 (gives_what_was_admitted accepts terms base es legal i e at_i)).0 read_e.0 in
+        let second : digest_of c ≡ d = reads_one f.call (digest_of c) d (subst (GivesAdmitted accepts terms.committee f.call) read_f.1 (gives_what_was_admitted accepts terms base es legal j f at_j)).0 read_f.0 in
         elim (reads_between terms.bounds base es d b c (sound_base accepts terms base legal.based) legal.replies i j e f order at_i at_j read_e read_f) [
           | inl same ↦ absurd (differ same)
           | inr between ↦ inr (between, record { differ = differ; first = first; second = second })

@@ -1,10 +1,10 @@
 -- The invariant of a store with an index (IsSoundWithIndex), step by step.
-use Rattle.std.proofs.Common.{◌≡◌, ℕ, ◌≤◌, Bool, true, false, not, List, [], ◌∷◌, Option, Some, None, cond, is_some, refl, ap, sym, ◌∙◌, subst, arith, inl, inr, ◌⊎◌}
-use Rattle.std.specs.Prelude.{◌↔◌, Result, Ok, Err, OnOk, OnErr, ◌==◌, ◌&&◌, ◌||◌, find}
+use Rattle.std.proofs.Common.{◌≡◌, ◌≤◌, Bool, true, false, not, List, [], ◌∷◌, Option, Some, None, cond, is_some, refl, ap, sym, ◌∙◌, subst, arith, inl, inr, ◌⊎◌}
+use Rattle.std.proofs.lemmas.Bool.{and_parts, eqb-true}
+use Rattle.std.specs.Prelude.{◌↔◌, Result, Ok, Err, OnOk, OnErr, ◌==◌, ◌||◌, find}
 use Rattle.std.specs.List.{list_any}
 use Rattle.std.specs.declared.cmp.Ordering.{Ordering}
-use Rattle.std.specs.declared.cmp.Ordering.TheVariants.{Less, Equal, Greater}
-use Rattle.std.specs.Ordering.{eq_by_cmp, is_eq}
+use Rattle.std.specs.Ordering.{eq_by_cmp}
 use Rattle.std.specs.Cmp.{eq_by_cmp_equiv}
 use Rattle.std.specs.Option.{option_map_or}
 use Rattle.std.specs.FinMap.{FinMap, empty, get, insert, keys, contains_key-keys, get-empty, get-insert}
@@ -15,24 +15,16 @@ use Rattle.nw_digest.specs.Order.{digest_cmp, Slot, slot_cmp}
 use Rattle.nw_model.specs.State.{State, block_slot, certificate_slot}
 use Rattle.nw_model.specs.Step.{is_slot, has_other_slot, is_certified_for, certified_digest, with_block, with_certificate}
 use Rattle.nw_model.specs.Sound.{IsSound, IsIndex, IsSoundWithIndex}
-use Rattle.nw_model.proofs.Maps.{digests_total, digests_apart, slots_total, slots_apart}
+use Rattle.nw_digest.proofs.Maps.{digests_total, slots_total, slots_apart, tie, same_digest}
 
 -- ---- tests
 
-eq_numbers : (a b : ℕ) → (a == b) ≡ true → a ≡ b
-eq_numbers a b e = grind arith
-
 pub same_slot : (a b : Slot) → is_slot a b ≡ true → a ≡ b
 same_slot a b e =
-    let both : ((a.0 == b.0) ≡ true) × ((a.1 == b.1) ≡ true) = and_true (a.0 == b.0) (a.1 == b.1) e in
-    let first : a.0 ≡ b.0 = eq_numbers a.0 b.0 both.0 in
-    let second : a.1 ≡ b.1 = eq_numbers a.1 b.1 both.1 in
+    let both : ((a.0 == b.0) ≡ true) × ((a.1 == b.1) ≡ true) = and_parts (a.0 == b.0) (a.1 == b.1) e in
+    let first : a.0 ≡ b.0 = eqb-true a.0 b.0 both.0 in
+    let second : a.1 ≡ b.1 = eqb-true a.1 b.1 both.1 in
     λ i. (first i, second i)
-  where
-    and_true : (p q : Bool) → (p && q) ≡ true → (p ≡ true) × (q ≡ true)
-    and_true true true h = (refl, refl)
-    and_true true false h = absurd cc
-    and_true false q h = absurd cc
 
 pub slot_itself : (a : Slot) → is_slot a a ≡ true
 slot_itself a = grind arith
@@ -57,14 +49,6 @@ find_misses R p q (k ∷ ks) same any passes none = by (eq_by_cmp R q k) refl (p
     by t tie true is any none rest = absurd cc
     by true tie false is any none rest = let one : q ≡ k = same q k tie in let wrong : p k ≡ true = subst (λ z. p z ≡ true) one passes in absurd cc
     by false tie false is any none rest = rest any passes none
-
-pub tie : (r : Ordering) → is_eq r ≡ true → r ≡ Equal
-tie Less e = cc
-tie Equal e = refl
-tie Greater e = cc
-
-pub same_digest : (a b : Digest) → eq_by_cmp digest_cmp a b ≡ true → a ≡ b
-same_digest a b e = digests_apart a b (tie (digest_cmp a b) e)
 
 -- ---- the index
 

@@ -1,4 +1,3 @@
-pub mod Maps
 pub mod Kept
 pub mod WantedOrder
 pub mod Raised

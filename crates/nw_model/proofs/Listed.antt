@@ -1,5 +1,5 @@
 -- Lists of the blocks under given digests.
-use Rattle.std.proofs.Common.{◌≡◌, ◌↔◌, ◌⊎◌, zero, suc, List, [], ◌∷◌, Some, map, refl, ap, sym, ◌∙◌, subst, arith, inl, inr}
+use Rattle.std.proofs.Common.{◌≡◌, ◌↔◌, List, [], ◌∷◌, Some, map, refl, ap, sym, ◌∙◌, subst, inl, inr}
 use Rattle.std.specs.Prelude.{Contains}
 use Rattle.std.specs.List.Sorted.{IsStrictlySortedBy}
 use Rattle.std.specs.Cmp.{IsTotalOrder}
@@ -9,27 +9,14 @@ use Rattle.std.specs.FinMap.{FinMap, get}
 use Rattle.std.proofs.lemmas.Cmp.{on_total, tied_itself}
 use Rattle.std.proofs.lemmas.List.Elements.{All-from_recursion, All-contains}
 use Rattle.std.proofs.lemmas.Map.Keys.{sorted_head, sorted_tail}
+use Rattle.std.proofs.lemmas.Option.{same_Some}
 use Rattle.nw_digest.specs.declared.digest.Digest.{Digest}
 use Rattle.nw_codec.specs.declared.block.Block.{Block}
 use Rattle.nw_digest.specs.Order.{digest_cmp}
 use Rattle.nw_model.specs.State.{block_slot}
 use Rattle.nw_model.specs.Paths.{block_cmp, Lists}
-use Rattle.nw_model.proofs.Maps.{slots_total}
-
--- ---- elements
-
-pub contains_first : {X : Type 0} (x : X) (xs : List X) → Contains (x ∷ xs) x
-contains_first x xs = (0, omega arith, refl)
-
-pub contains_later : {X : Type 0} (y : X) (xs : List X) (x : X) → Contains xs x → Contains (y ∷ xs) x
-contains_later y xs x (k, lt, at) = (suc k, omega arith, at)
-
-pub contains_cases : {X : Type 0} (y : X) (xs : List X) (x : X) → Contains (y ∷ xs) x → (y ≡ x) ⊎ Contains xs x
-contains_cases y xs x (zero, lt, at) = inl at
-contains_cases y xs x (suc k, lt, at) = inr (k, omega arith, at)
-
-pub contains_none : {X : Type 0} (x : X) → Contains [] x → ⊥
-contains_none x (k, lt, at) = omega arith
+use Rattle.nw_digest.proofs.Maps.{slots_total}
+use Rattle.nw_digest.proofs.Elements.{contains_first, contains_later, contains_cases, contains_none}
 
 -- ---- lists in order
 
@@ -109,11 +96,8 @@ listed_too : (held : FinMap digest_cmp Block) (P : Digest → Type 0) (blocks ot
 listed_too held P blocks others one other b among =
     let under = digest_of held one.digests blocks b one.found among in
     let there = block_of held other.digests others under.0 other.found ((other.exactly under.0).1 ((one.exactly under.0).0 under.1)) in
-    let same : there.0 ≡ b = one_block there.0 b (sym there.2 ∙ under.2) in
+    let same : there.0 ≡ b = same_Some there.0 b (sym there.2 ∙ under.2) in
     subst (λ z. Contains others z) same there.1
-  where
-    one_block : (x y : Block) → Some x ≡ Some y → x ≡ y
-    one_block x y e = cc
 
 -- any two lists for the digests with P are equal
 pub same_lists : (held : FinMap digest_cmp Block) (P : Digest → Type 0) (blocks others : List Block) → Lists held P blocks → Lists held P others → blocks ≡ others

@@ -1,22 +1,18 @@
 -- What looks tell: a state has one look at a slot, and one list of the looks at a round.
-use Rattle.std.proofs.Common.{◌≡◌, ◌↔◌, ◌+◌, ℕ, Bool, true, false, List, Option, Some, None, IsSome, is_some, map, refl, sym, ◌∙◌, ap, subst, arith}
-use Rattle.std.specs.Prelude.{All, Contains, IsTrue}
-use Rattle.std.specs.List.Sorted.{IsStrictlySortedBy}
-use Rattle.std.specs.Ordering.{nat_cmp}
+use Rattle.std.proofs.Common.{◌≡◌, ◌↔◌, ◌+◌, Bool, true, false, Some, refl, sym, ◌∙◌, ap, subst, arith}
+use Rattle.std.specs.Prelude.{IsTrue}
 use Rattle.std.specs.Option.{option_map_or}
-use Rattle.std.specs.Map.{keys_of}
 use Rattle.std.specs.FinMap.{get}
 use Rattle.nw_digest.specs.declared.digest.Digest.{Digest}
 use Rattle.nw_digest.specs.Order.{Slot}
-use Rattle.nw_codec.specs.declared.block.Block.{Block}
+use Rattle.nw_digest.proofs.Found.{which, is_there}
 use Rattle.nw_codec.specs.declared.block.Ref.{Ref}
-use Rattle.nw_codec.specs.declared.certificate.Certificate.{Certificate}
 use Rattle.nw_model.specs.declared.look.Look.{Look}
-use Rattle.nw_model.specs.State.{State, block_slot, certificate_slot}
+use Rattle.nw_model.specs.State.{State, block_slot}
 use Rattle.nw_model.specs.Sound.{IsSound}
 use Rattle.nw_model.specs.Paths.{IsComplete, IsSatisfied}
 use Rattle.nw_model.specs.Look.{IsLook, TellsSatisfied}
-use Rattle.nw_model.specs.Step.{certified_digest, is_held}
+use Rattle.nw_model.specs.Step.{is_held}
 use Rattle.nw_model.proofs.Kept.{certified_is}
 
 -- tests of the same fact are equal
@@ -36,13 +32,6 @@ one_look s slot a b one other =
     same_tests {P = (d : Digest) × (b.certified ≡ Some d) × IsComplete s d} a.complete b.complete
     (subst (λ found. IsTrue a.complete ↔ ((d : Digest) × (found ≡ Some d) × IsComplete s d)) certified one.complete) other.complete in
     λ i. record { floor = floor i; first = first i; certified = certified i; stands = stands i; complete = complete i }
-
-which : {X : Type 0} (found : Option X) → IsSome found → (x : X) × (found ≡ Some x)
-which None h = absurd cc
-which (Some x) h = (x, refl)
-
-is_there : {X : Type 0} (found : Option X) (x : X) → found ≡ Some x → IsSome found
-is_there found x e = subst IsSome (sym e) refl
 
 -- in a sound state, a look tells which references of the next round are satisfied
 module _ (s : State) (sound : IsSound s) (slot : Slot) (look : Look) (is : IsLook s slot look) where

@@ -1,19 +1,17 @@
 -- Blocks with no missing parents.
-use Rattle.std.proofs.Common.{◌≡◌, ◌+◌, ◌-◌, ◌<◌, List, [], Some, get_or, refl, subst, arith, inl, inr}
-use Rattle.std.specs.Prelude.{All, Contains}
+use Rattle.std.proofs.Common.{◌≡◌, ◌+◌, ◌-◌, ◌<◌, [], get_or, refl, subst, arith, inl, inr}
+use Rattle.std.specs.Prelude.{All}
 use Rattle.std.specs.List.Sorted.{IsStrictlySortedBy}
-use Rattle.std.specs.FinMap.{get}
 use Rattle.std.proofs.lemmas.List.Elements.{All-contains, Contains-get_or}
-use Rattle.nw_digest.specs.declared.digest.Digest.{Digest}
 use Rattle.nw_codec.specs.declared.block.Block.{Block}
 use Rattle.nw_model.specs.declared.wanted.Wanted.{Wanted}
 use Rattle.nw_model.specs.State.{State}
 use Rattle.nw_model.specs.Paths.{IsSatisfied}
-use Rattle.nw_model.specs.Missing.{AreMissingOf, ListsExactly, Wants, wanted_cmp}
+use Rattle.nw_model.specs.Missing.{Wants, wanted_cmp}
 use Rattle.nw_model.specs.Laws.{BlocksWithTheirParentsMissNone}
 use Rattle.nw_model.proofs.Complete.{one_block}
 use Rattle.nw_model.proofs.Contained.{decided_satisfied}
-use Rattle.nw_model.proofs.Listed.{contains_none}
+use Rattle.nw_digest.proofs.Elements.{contains_none}
 
 -- a block that wants no parent has all its references satisfied
 all_satisfied : (s : State) (b : Block) → ((w : Wanted) → Wants s b w → ⊥) → s.floor < b.round → All (IsSatisfied s b.round) b.parents
@@ -29,7 +27,7 @@ all_satisfied s b none above = λ k r lt.
 wants_none : (s : State) (b : Block) → (s.floor < b.round → All (IsSatisfied s b.round) b.parents) → (w : Wanted) → Wants s b w → ⊥
 wants_none s b all w (above, r, among, not, named) = not (All-contains (IsSatisfied s b.round) b.parents r (all above) among)
 
-ordered_none : IsStrictlySortedBy wanted_cmp []
+pub ordered_none : IsStrictlySortedBy wanted_cmp []
 unfolding IsStrictlySortedBy
 ordered_none = tt
 

@@ -1,5 +1,5 @@
 -- Each call has one reply.
-use Rattle.std.proofs.Common.{◌≡◌, ◌⊎◌, ℕ, List, length, Option, Some, None, IsSome, refl, ap, sym, ◌∙◌, subst, inl, inr}
+use Rattle.std.proofs.Common.{◌≡◌, ◌⊎◌, ℕ, List, length, Option, Some, None, refl, ap, sym, ◌∙◌, subst, inl, inr}
 use Rattle.std.specs.Prelude.{take}
 use Rattle.std.specs.Cmp.{IsTotalOrder}
 use Rattle.std.specs.declared.cmp.Ordering.{Ordering}
@@ -20,7 +20,8 @@ use Rattle.nw_model.specs.declared.reply.CausalReply.{CausalReply}
 use Rattle.nw_model.specs.declared.reply.CausalReply.TheVariants as causal
 use Rattle.nw_model.specs.declared.reply.Reply.{Reply}
 use Rattle.nw_model.specs.declared.reply.Reply.TheVariants as reply
-use Rattle.nw_model.proofs.Maps.{digests_total}
+use Rattle.nw_digest.proofs.Maps.{digests_total}
+use Rattle.nw_digest.proofs.Found.{not_there, is_there}
 use Rattle.nw_model.proofs.Complete.{one_block}
 use Rattle.nw_model.proofs.Listed.{same_lists, same_in_order}
 
@@ -64,30 +65,22 @@ to_ask_certify bounds s q other is = absurd is
 
 -- ---- causal reads
 
-none_some : {X : Type 0} (found : Option X) → found ≡ None → IsSome found → ⊥
-none_some None none some = absurd cc
-none_some (Some x) none some = absurd cc
-
-some_is : {X : Type 0} (found : Option X) (x : X) → found ≡ Some x → IsSome found
-some_is None x e = absurd cc
-some_is (Some y) x e = refl
-
 -- a complete digest gets its list
 complete_listed : (s : State) (d : Digest) (r : CausalReply) → IsComplete s d → IsCausalReply s d (reply.Causal r) → ⊥
-complete_listed s d causal.Unknown whole is = none_some (get s.blocks d) is (some_is (get s.blocks d) whole.stands.0 whole.stands.1.0)
-complete_listed s d causal.Uncertified whole is = none_some (get s.certificates d) is.1 whole.stands.1.1
+complete_listed s d causal.Unknown whole is = not_there (get s.blocks d) is (is_there (get s.blocks d) whole.stands.0 whole.stands.1.0)
+complete_listed s d causal.Uncertified whole is = not_there (get s.certificates d) is.1 whole.stands.1.1
 complete_listed s d causal.Incomplete whole is = is.2 whole
 
 -- there is only one reason why there is no list
 one_reason : (s : State) (d : Digest) (one other : CausalReply) → IsCausalReply s d (reply.Causal one) → IsCausalReply s d (reply.Causal other) → one ≡ other
 one_reason s d causal.Unknown causal.Unknown is was = refl
-one_reason s d causal.Unknown causal.Uncertified is was = absurd (none_some (get s.blocks d) is was.0)
-one_reason s d causal.Unknown causal.Incomplete is was = absurd (none_some (get s.blocks d) is was.0)
-one_reason s d causal.Uncertified causal.Unknown is was = absurd (none_some (get s.blocks d) was is.0)
+one_reason s d causal.Unknown causal.Uncertified is was = absurd (not_there (get s.blocks d) is was.0)
+one_reason s d causal.Unknown causal.Incomplete is was = absurd (not_there (get s.blocks d) is was.0)
+one_reason s d causal.Uncertified causal.Unknown is was = absurd (not_there (get s.blocks d) was is.0)
 one_reason s d causal.Uncertified causal.Uncertified is was = refl
-one_reason s d causal.Uncertified causal.Incomplete is was = absurd (none_some (get s.certificates d) is.1 was.1)
-one_reason s d causal.Incomplete causal.Unknown is was = absurd (none_some (get s.blocks d) was is.0)
-one_reason s d causal.Incomplete causal.Uncertified is was = absurd (none_some (get s.certificates d) was.1 is.1)
+one_reason s d causal.Uncertified causal.Incomplete is was = absurd (not_there (get s.certificates d) is.1 was.1)
+one_reason s d causal.Incomplete causal.Unknown is was = absurd (not_there (get s.blocks d) was is.0)
+one_reason s d causal.Incomplete causal.Uncertified is was = absurd (not_there (get s.certificates d) was.1 is.1)
 one_reason s d causal.Incomplete causal.Incomplete is was = refl
 
 -- the reply to a causal read is a reason, or the list of a complete digest
@@ -144,8 +137,8 @@ same_missing bounds s most one other is was =
 -- and so are the missing parents of a block
 one_missing_of : (s : State) (d : Digest) (one other : Option (List Wanted)) → AreMissingOf s d one → AreMissingOf s d other → one ≡ other
 one_missing_of s d None None is was = refl
-one_missing_of s d None (Some there) is (c, at, exact) = absurd (none_some (get s.blocks d) is (some_is (get s.blocks d) c at))
-one_missing_of s d (Some here) None (b, at, exact) was = absurd (none_some (get s.blocks d) was (some_is (get s.blocks d) b at))
+one_missing_of s d None (Some there) is (c, at, exact) = absurd (not_there (get s.blocks d) is (is_there (get s.blocks d) c at))
+one_missing_of s d (Some here) None (b, at, exact) was = absurd (not_there (get s.blocks d) was (is_there (get s.blocks d) b at))
 one_missing_of s d (Some here) (Some there) (b, at, one) (c, at_too, other) =
     ap Some (one_list wanted_total (Wants s b) here there one (subst (λ (x : Block). ListsExactly wanted_cmp (Wants s x) there) (one_block c b at_too at) other))
 

@@ -6,6 +6,7 @@ use Rattle.std.specs.FinMap.{get}
 use Rattle.std.proofs.lemmas.List.Elements.{All-contains}
 use Rattle.std.proofs.lemmas.List.Sums.{sum_by-cons}
 use Rattle.nw_digest.specs.declared.digest.Digest.{Digest}
+use Rattle.nw_digest.proofs.Elements.{contains_first, contains_later, contains_cases, contains_none, contains_filter}
 use Rattle.nw_codec.specs.Fits.{authors}
 use Rattle.nw_codec.specs.declared.block.Ref.{Ref}
 use Rattle.nw_codec.specs.declared.block.Block.{Block}
@@ -18,8 +19,8 @@ use Rattle.nw_model.specs.Paths.{IsStanding, IsSatisfied, IsAncestor, IsComplete
 use Rattle.nw_model.specs.Laws.{authors_in, CausalListsReachQuorums}
 use Rattle.nw_model.proofs.Admitted.{AreAdmitted, admitted_left}
 use Rattle.nw_model.proofs.Complete.{one_block}
-use Rattle.nw_model.proofs.Contained.{kept, ancestor_joined}
-use Rattle.nw_model.proofs.Listed.{contains_first, contains_later, contains_cases, contains_none, block_of}
+use Rattle.nw_model.proofs.Contained.{ancestor_joined}
+use Rattle.nw_model.proofs.Listed.{block_of}
 
 -- ---- weights
 
@@ -84,14 +85,14 @@ author_listed : (round : ℕ) (blocks : List Block) (p : Block) → Contains blo
 author_listed round blocks p among at =
     let passes : (p.round == round) ≡ true = grind arith in
     listed_there (authors_in round blocks) p.author
-    (contains_map (λ (x : Block). x.author) (filter (λ x. x.round == round) blocks) p ((kept (λ (x : Block). x.round == round) blocks p).1 (among, passes)))
+    (contains_map (λ (x : Block). x.author) (filter (λ x. x.round == round) blocks) p ((contains_filter (λ (x : Block). x.round == round) blocks p).1 (among, passes)))
 
 -- ---- from a block down
 
 module _ (accepts : Meaning) (members : List Member) (s : State) (admitted : AreAdmitted accepts members s) where
   -- the parents of a held block after round 0 reach the quorum
   parents_reach : (d : Digest) (b : Block) → get s.blocks d ≡ Some b → 0 < b.round → ReachesQuorum members (authors b.parents)
-  parents_reach d b at above = (admitted d b at).1.1.parents above
+  parents_reach d b at above = (admitted.blocks d b at).1.1.parents above
 
   -- a block whose parents reach the quorum has a parent
   some_parent : (b : Block) → ReachesQuorum members (authors b.parents) → (r : Ref) × Contains b.parents r

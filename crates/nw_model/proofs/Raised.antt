@@ -9,6 +9,7 @@ use Rattle.std.specs.BTreeMap.{is_at}
 use Rattle.std.specs.FinMap.{FinMap, get, retain_keys, from_entries, get-retain_keys, same_map}
 use Rattle.std.proofs.lemmas.Map.Entries.{option_filter, lookup-filter-keys, lookup-filter-values}
 use Rattle.std.proofs.lemmas.Map.Keys.{IsDistinct-from_sorted}
+use Rattle.std.proofs.lemmas.Option.{none-some, same_Some}
 use Rattle.nw_digest.specs.declared.digest.Digest.{Digest}
 use Rattle.nw_codec.specs.declared.block.Block.{Block}
 use Rattle.nw_codec.specs.declared.certificate.Certificate.{Certificate}
@@ -16,20 +17,13 @@ use Rattle.nw_digest.specs.Order.{digest_cmp, Slot, slot_cmp}
 use Rattle.nw_model.specs.State.{State}
 use Rattle.nw_model.specs.Step.{from_round, raised}
 use Rattle.nw_model.specs.Sound.{IsSound, IsSoundWithIndex}
-use Rattle.nw_model.proofs.Maps.{digests_total, digests_apart, slots_total, slots_apart, get_lookup}
-use Rattle.nw_model.proofs.Kept.{tie}
+use Rattle.nw_digest.proofs.Maps.{digests_total, digests_apart, slots_total, slots_apart, get_lookup, tie}
 
 low : (a b : ℕ) → nat_le a b ≡ true → a ≤ b
 low a b e = grind arith
 
 is_low : (a b : ℕ) → a ≤ b → nat_le a b ≡ true
 is_low a b h = grind arith
-
-only_one : {X : Type 0} (x y : X) → Some x ≡ Some y → x ≡ y
-only_one x y e = cc
-
-nothing : {X : Type 0} (x : X) → None ≡ Some x → ⊥
-nothing x e = cc
 
 module _ {X : Type 0} (round_of : X → ℕ) (round : ℕ) (m : FinMap digest_cmp X) where
   abbrev keeps : Option X → Bool
@@ -43,12 +37,12 @@ module _ {X : Type 0} (round_of : X → ℕ) (round : ℕ) (m : FinMap digest_cm
   was_there d x e = by (get m d) refl (sym (at_round d) ∙ e)
     where
       by : (found : Option X) → get m d ≡ found → cond (keeps found) found None ≡ Some x → (get m d ≡ Some x) × (round ≤ round_of x)
-      by None is at = absurd (nothing x at)
+      by None is at = absurd (none-some x at)
       by (Some y) is at = test (nat_le round (round_of y)) refl at
         where
           test : (b : Bool) → nat_le round (round_of y) ≡ b → cond b (Some y) None ≡ Some x → (get m d ≡ Some x) × (round ≤ round_of x)
-          test true high same = (is ∙ same, subst (λ z. round ≤ round_of z) (only_one y x same) (low round (round_of y) high))
-          test false high same = absurd (nothing x same)
+          test true high same = (is ∙ same, subst (λ z. round ≤ round_of z) (same_Some y x same) (low round (round_of y) high))
+          test false high same = absurd (none-some x same)
 
   -- an entry that was there and is not below the round is kept
   pub is_kept : (d : Digest) (x : X) → get m d ≡ Some x → round ≤ round_of x → get (from_round round_of round m) d ≡ Some x
@@ -70,7 +64,7 @@ module _ {X : Type 0} (round : ℕ) (m : FinMap slot_cmp X) where
     where
       by : (b : Bool) → nat_le round slot.0 ≡ b → cond b (get m slot) None ≡ Some x → (get m slot ≡ Some x) × (round ≤ slot.0)
       by true high at = (at, low round slot.0 high)
-      by false high at = absurd (nothing x at)
+      by false high at = absurd (none-some x at)
 
   pub slot_is_kept : (slot : Slot) → round ≤ slot.0 → get slots_from slot ≡ get m slot
   slot_is_kept slot high = at_slot_round slot ∙ ap (λ b. cond b (get m slot) None) (is_low round slot.0 high)

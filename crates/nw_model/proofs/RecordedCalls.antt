@@ -15,6 +15,7 @@ use Rattle.nw_model.specs.declared.reply.WriteReply.{WriteReply}
 use Rattle.nw_model.specs.declared.reply.WriteReply.TheVariants as write
 use Rattle.nw_model.specs.declared.reply.CertifyReply.{CertifyReply}
 use Rattle.nw_model.specs.declared.reply.CertifyReply.TheVariants as certify
+use Rattle.nw_model.proofs.Replayed.{is_stored}
 
 abbrev is_clash : WriteReply → Bool
 is_clash write.Clash = true
@@ -39,10 +40,6 @@ asked : (bounds : Bounds) (s : State) (d : Digest) (b : Block) (w : WriteReply) 
 asked bounds s d b w kept is =
     asks (is_collected s b.round) (is_too_far bounds s b.round) (is_held_block s d b) (is_held s d) (write.Collected s.floor) (new_write_reply bounds s d (b.round, b.author)) w
     (found_of _ (get s.blocks d)) kept is
-
-abbrev is_stored : WriteReply → Bool
-is_stored (write.Stored vote) = true
-is_stored other = false
 
 unchanged : (s : State) (d : Digest) (b : Block) (w : WriteReply) → is_stored w ≡ false → s ≡ after_write s d b w
 unchanged s d b (write.Stored vote) refused = absurd cc

@@ -17,7 +17,7 @@ use Rattle.nw_codec.specs.declared.certificate.Certificate.{Certificate}
 use Rattle.nw_codec.specs.Same.{same_bytes, same_ref, same_block}
 use Rattle.nw_digest.specs.Order.{digest_cmp, Slot, slot_cmp}
 use Rattle.nw_model.specs.State.{State, opening}
-use Rattle.nw_model.proofs.Maps.{get_lookup}
+use Rattle.nw_digest.proofs.Maps.{get_lookup}
 
 -- a test that decides one statement decides each equivalent statement
 by_parts : {P Q : Type 0} (r : Bool) → (P → Q) → (Q → P) → Decides r P → Decides r Q
@@ -125,6 +125,6 @@ no_firsts s e = ap (λ (x : State). len x.firsts) e ∙ len-empty slot_cmp Diges
 pub not_opening : (s : State) → (s ≡ opening → ⊥) → Decides false (s ≡ opening)
 not_opening s other = (λ yes. absurd cc, λ e. absurd (other e))
 
--- if a number is 0 exactly if a statement holds, a test for 0 decides the statement
+-- if a number is 0 exactly when a statement holds, a test for 0 decides the statement
 pub zero_decides : {P : Type 0} (n : ℕ) → (n ≡ 0 → P) → (P → n ≡ 0) → Decides (nat_eq n 0) P
 zero_decides n to from = by_parts (nat_eq n 0) to from (Decides-eqb n 0)

@@ -1,11 +1,13 @@
 -- A causal list stays, except for the rounds below a later garbage round.
-use Rattle.std.proofs.Common.{◌≡◌, ℕ, ◌+◌, ◌<◌, ◌≤◌, Bool, true, false, cond, List, [], ◌∷◌, Option, Some, None, IsSome, get_or, map, refl, ap, sym, ◌∙◌, subst, arith}
+use Rattle.std.proofs.Common.{◌≡◌, ℕ, ◌+◌, ◌<◌, ◌≤◌, Bool, true, false, cond, List, [], ◌∷◌, Some, get_or, map, refl, ap, sym, ◌∙◌, subst, arith}
 use Rattle.std.specs.Prelude.{Contains, filter, nat_le}
 use Rattle.std.specs.Option.{option_map_or}
 use Rattle.std.specs.FinMap.{get}
 use Rattle.std.proofs.lemmas.List.Elements.{All-contains}
 use Rattle.std.proofs.lemmas.List.Kept.{IsStrictlySortedBy-filter}
 use Rattle.nw_digest.specs.declared.digest.Digest.{Digest}
+use Rattle.nw_digest.proofs.Found.{which, is_there}
+use Rattle.nw_digest.proofs.Elements.{contains_filter}
 use Rattle.nw_codec.specs.declared.block.Ref.{Ref}
 use Rattle.nw_codec.specs.declared.block.Block.{Block}
 use Rattle.nw_model.specs.State.{State, block_slot, certificate_slot}
@@ -13,17 +15,8 @@ use Rattle.nw_model.specs.Paths.{block_cmp, IsStanding, IsSatisfied, IsParent, I
 use Rattle.nw_model.specs.Sound.{IsSound}
 use Rattle.nw_model.specs.Laws.{CausalListsStay}
 use Rattle.nw_model.proofs.Complete.{one_block, parent_complete}
-use Rattle.nw_model.proofs.Contained.{kept}
 use Rattle.nw_model.proofs.Carried.{Carries, carries_replay}
 use Rattle.nw_model.proofs.Replayed.{sound_base, sound_replay}
-
-is_some_then : {X : Type 0} (found : Option X) → IsSome found → (x : X) × (found ≡ Some x)
-is_some_then None h = absurd cc
-is_some_then (Some x) h = (x, refl)
-
-some_is : {X : Type 0} (found : Option X) (x : X) → found ≡ Some x → IsSome found
-some_is None x e = absurd cc
-some_is (Some y) x e = refl
 
 -- ---- from s on to t
 
@@ -31,10 +24,10 @@ module _ (s t : State) (sound : IsSound s) (carries : Carries s t) where
   -- a digest that stands in s stands in t, if its block is not below the garbage round of t
   still_standing : (d : Digest) (b : Block) → IsStanding s d b → t.floor ≤ b.round → IsStanding t d b
   still_standing d b stands high =
-      let c = is_some_then (get s.certificates d) stands.1 in
+      let c = which (get s.certificates d) stands.1 in
       let slots : block_slot b ≡ certificate_slot c.0 = sound.one_slot d b c.0 stands.0 c.1 in
       let round : b.round ≡ c.0.round = ap (λ (q : ℕ × ℕ). q.0) slots in
-      (carries.blocks d b stands.0 high, some_is (get t.certificates d) c.0 (carries.certificates d c.0 c.1 (omega arith)))
+      (carries.blocks d b stands.0 high, is_there (get t.certificates d) c.0 (carries.certificates d c.0 c.1 (omega arith)))
 
   -- a satisfied reference of a block above the garbage round of t is satisfied in t
   still_satisfied : (round : ℕ) (r : Ref) → t.floor < round → IsSatisfied s round r → IsSatisfied t round r
@@ -137,13 +130,13 @@ module _ (s t : State) (sound : IsSound s) (carries : Carries s t) where
     found = remaining listed.digests blocks listed.found;
     exactly = λ a. (
       λ among.
-          let both = (kept remains listed.digests a).0 among in
+          let both = (contains_filter remains listed.digests a).0 among in
           let ancestor : IsAncestor s d a = (listed.exactly a).0 both.0 in
           let last = last_stands d ancestor.0 a ancestor.1 in
           (ancestor.0, (still_path d ancestor.0 a last.0 ancestor.1 last.1 (remains_then a last.0 last.1.0 both.1)).0),
       λ ancestor.
           let was = was_path d ancestor.0 a b sound_t whole stands high ancestor.1 in
-          (kept remains listed.digests a).1 ((listed.exactly a).1 (ancestor.0, was.0), then_remains a was.1 was.2.0 was.3),
+          (contains_filter remains listed.digests a).1 ((listed.exactly a).1 (ancestor.0, was.0), then_remains a was.1 was.2.0 was.3),
     );
     ascending = IsStrictlySortedBy-filter block_cmp (λ x. nat_le t.floor x.round) blocks listed.ascending;
   }

@@ -1,6 +1,5 @@
 -- A view has the ancestors of the state that it shows.
-use Rattle.std.proofs.Common.{◌≡◌, ◌+◌, ◌<◌, ◌≤◌, List, [], ◌∷◌, Some, map, refl, sym, ◌∙◌, subst, arith}
-use Rattle.std.specs.Prelude.{Contains}
+use Rattle.std.proofs.Common.{◌≡◌, ◌+◌, ◌<◌, ◌≤◌, List, [], ◌∷◌, Some, sym, ◌∙◌, subst, arith}
 use Rattle.std.specs.FinMap.{get}
 use Rattle.std.proofs.lemmas.List.Elements.{All-contains}
 use Rattle.nw_digest.specs.declared.digest.Digest.{Digest}
@@ -11,7 +10,7 @@ use Rattle.nw_model.specs.Sound.{HasNoBlocksBelowFloor}
 use Rattle.nw_model.specs.View.{Frozen, HasBlock, IsParentIn, IsPathIn, IsAncestorIn, IsWalk, Shows}
 use Rattle.nw_model.specs.Laws.{ViewsShowTheAncestors}
 use Rattle.nw_model.proofs.Complete.{parent_complete, parents_complete}
-use Rattle.nw_model.proofs.Listed.{contains_first, contains_later}
+use Rattle.nw_digest.proofs.Elements.{same_map}
 
 -- each block of the view is held in the state
 pub there_held : (v : Frozen) (s : State) (d : Digest) (b : Block) → Shows v s → HasBlock v d b → get s.blocks d ≡ Some b
@@ -60,14 +59,6 @@ ancestors_shown v s d kept shows whole a = (
   λ in_view. (in_view.0, path_to_state v s d in_view.0 a shows whole in_view.1),
   λ in_state. (in_state.0, path_to_view v s d in_state.0 a kept shows whole in_state.1),
 )
-
--- two functions that agree on the elements of a list map it to the same list
-same_map : {X Y : Type 0} (f g : X → Y) (xs : List X) → ((x : X) → Contains xs x → f x ≡ g x) → map f xs ≡ map g xs
-same_map f g [] agree = refl
-same_map f g (x ∷ xs) agree =
-    let first : f x ≡ g x = agree x (contains_first x xs) in
-    let rest : map f xs ≡ map g xs = same_map f g xs (λ z among. agree z (contains_later x xs z among)) in
-    cc
 
 -- a walk of a complete block in a view that shows the state is its causal list
 pub walk_is_causal : (v : Frozen) (s : State) (d : Digest) (blocks : List Block) → HasNoBlocksBelowFloor s → Shows v s → IsComplete s d → IsWalk v d blocks → IsCausalList s d blocks

@@ -1,5 +1,5 @@
 -- The blocks of the found digests, in the order of their slots.
-use Rattle.std.proofs.Common.{◌≡◌, ℕ, ◌<◌, List, [], ◌∷◌, Some, None, All, length, get_or, map, refl, ap, sym, ◌∙◌, subst, arith, inl, inr, ◌++◌, Bor}
+use Rattle.std.proofs.Common.{◌≡◌, ℕ, ◌<◌, List, [], ◌∷◌, Some, All, length, get_or, map, refl, ap, sym, ◌∙◌, subst, arith, inl, inr, ◌++◌, Bor}
 use Rattle.std.specs.Prelude.{Contains}
 use Rattle.std.specs.declared.cmp.Ordering.TheVariants.{Less}
 use Rattle.std.specs.Cmp.{eq_by_cmp_equiv}
@@ -13,7 +13,7 @@ use Rattle.std.proofs.lemmas.List.{get_or-map, map-append}
 use Rattle.std.proofs.lemmas.List.Elements.{recursion_from_All}
 use Rattle.std.proofs.lemmas.Map.Keys.{IsDistinct-from_sorted}
 use Rattle.std.proofs.lemmas.Map.Entries.{lookup_from_place, place_from_lookup, length-values_of}
-use Rattle.std.proofs.lemmas.Option.{slice_get-get_or, get_or_from_slice_get, slice_get_cases}
+use Rattle.std.proofs.lemmas.Option.{slice_get-get_or, get_or_from_slice_get, slice_get_cases, none-some, same_Some}
 use Rattle.nw_digest.specs.declared.digest.Digest.{Digest}
 use Rattle.nw_codec.specs.declared.block.Block.{Block}
 use Rattle.nw_digest.specs.Order.{Slot, slot_cmp}
@@ -21,7 +21,7 @@ use Rattle.nw_model.specs.State.{block_slot}
 use Rattle.nw_model.specs.Paths.{block_cmp}
 use Rattle.nw_model.specs.View.{Frozen, IsWalk}
 use Rattle.nw_model.specs.Search.{IsUnderSlot, FindsAncestors}
-use Rattle.nw_model.proofs.Maps.{get_lookup, slots_total}
+use Rattle.nw_digest.proofs.Maps.{get_lookup, slots_total}
 
 -- ---- entries in order
 
@@ -31,9 +31,6 @@ each_found es sorted k d lt =
     let e : Slot × Digest = get_or es k d in
     get_lookup slots_total es e.0
     ∙ lookup_from_place (eq_by_cmp_equiv slots_total) es k e.0 e.1 (IsDistinct-from_sorted slot_cmp (keys_of es) sorted) (slice_get-get_or es k d lt)
-
-no_entry : (e : Slot × Digest) → None ≡ Some e → ⊥
-no_entry e h = cc
 
 -- a found digest is among the values
 found_among : (es : List (Slot × Digest)) (q : Slot) (a : Digest) → get (from_entries {R = slot_cmp} es) q ≡ Some a → Contains (values_of es) a
@@ -46,7 +43,7 @@ found_among es q a at =
     in_range : (i : ℕ) (e : Slot × Digest) → slice_get es i ≡ Some e → i < length es
     in_range i e is = elim ((slice_get_cases es i).1) [
       | inl (x, lt, at, same) ↦ lt
-      | inr (past, none) ↦ absurd (no_entry e (sym none ∙ is))
+      | inr (past, none) ↦ absurd (none-some e (sym none ∙ is))
     ]
 
 -- each of the values is found
@@ -59,9 +56,6 @@ among_found es a sorted (k, lt, at) =
 
 -- ---- blocks in order
 
-some_same : (b c : Block) → Some b ≡ Some c → b ≡ c
-some_same b c e = cc
-
 -- the blocks under the values have the keys as their slots
 same_slots : (v : Frozen) (es : List (Slot × Digest)) (blocks : List Block) → AllByRecursion (λ e. IsUnderSlot v e.0 e.1) es → map (get v.blocks) (values_of es) ≡ map Some blocks → map block_slot blocks ≡ keys_of es
 same_slots v [] [] under is = refl
@@ -71,7 +65,7 @@ same_slots v (e ∷ es) (b ∷ bs) under is =
     let head : get v.blocks e.1 ≡ Some b = cc in
     let tail : map (get v.blocks) (values_of es) ≡ map Some bs = cc in
     let here = under.0 in
-    let one : here.0 ≡ b = some_same here.0 b (sym here.1.0 ∙ head) in
+    let one : here.0 ≡ b = same_Some here.0 b (sym here.1.0 ∙ head) in
     let slot : block_slot b ≡ e.0 = ap block_slot (sym one) ∙ here.2 in
     let rest : map block_slot bs ≡ keys_of es = same_slots v es bs under.1 tail in
     cc

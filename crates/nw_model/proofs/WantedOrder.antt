@@ -9,8 +9,7 @@ use Rattle.nw_digest.specs.declared.digest.Digest.{Digest}
 use Rattle.nw_digest.specs.Order.{digest_cmp}
 use Rattle.nw_model.specs.declared.wanted.Wanted.{Wanted}
 use Rattle.nw_model.specs.Missing.{wanted_cmp}
-use Rattle.nw_model.proofs.Kept.{tie}
-use Rattle.nw_model.proofs.Maps.{digests_apart, digests_total}
+use Rattle.nw_digest.proofs.Maps.{digests_apart, digests_total, tie}
 
 pub wanted_total : IsTotalOrder wanted_cmp
 wanted_total = then_total (on_total (λ (w : Wanted). w.round) nat_cmp_total) (then_total (on_total (λ (w : Wanted). w.author) nat_cmp_total) (on_total (λ (w : Wanted). w.digest) digests_total))

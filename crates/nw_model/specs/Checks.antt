@@ -4,6 +4,7 @@ use Rattle.sha2.specs.Sha256.{sha256}
 use Rattle.nw_digest.specs.declared.digest.Digest.{Digest}
 use Rattle.nw_codec.specs.Fits.{Fits, CertificateFits, authors, signers}
 use Rattle.nw_codec.specs.Grammar.{body}
+use Rattle.nw_codec.specs.Subject.{certificate_subject}
 use Rattle.nw_codec.specs.Typed.{IsSignature}
 use Rattle.nw_codec.specs.declared.block.Block.{Block}
 use Rattle.nw_codec.specs.declared.certificate.Signature.{Signature}
@@ -46,7 +47,7 @@ IsWellFormed accepts members b = (signature : Signature) × IsWellFormedWith acc
 
 -- the seal is its signer's vote for the certificate's digest, round and author
 abbrev pub IsSealOf : Meaning → List Member → Certificate → Seal → Type 0
-IsSealOf accepts members c seal = IsSignedBy accepts members seal.signer (text_of_vote c.digest c.round c.author) seal.signature
+IsSealOf accepts members c seal = IsSignedBy accepts members seal.signer (text_of_vote (certificate_subject c)) seal.signature
 
 -- the certificate is valid
 pub record IsValid (accepts : Meaning) (members : List Member) (c : Certificate) : Type 0 where

@@ -60,7 +60,7 @@ FirstsOfABaseGetNoVote =
     (accepts : Meaning) (terms : Terms) (base : State) (es : List Event) → IsLegal accepts terms base es
     → (slot : Slot) → IsSome (get base.firsts slot) → (i : ℕ) (e : Event) → slice_get es i ≡ Some e → IsVotingEvent slot e → ⊥
 
--- a held block has no missing parents exactly if all its references are satisfied, or it is not above the garbage round
+-- a held block has no missing parents exactly when all its references are satisfied, or it is not above the garbage round
 abbrev pub BlocksWithTheirParentsMissNone : Type 0
 BlocksWithTheirParentsMissNone =
     (s : State) (d : Digest) (b : Block) → get s.blocks d ≡ Some b → AreMissingOf s d (Some []) ↔ (s.floor < b.round → All (IsSatisfied s b.round) b.parents)

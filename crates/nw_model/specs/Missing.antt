@@ -31,7 +31,7 @@ IsWanted s w = (d : Digest) × (b : Block) × (get s.blocks d ≡ Some b) × Wan
 
 -- the list has exactly the values with P, in order
 pub record ListsExactly {A : Type 0} (cmp : A → A → Ordering) (P : A → Type 0) (xs : List A) : Type 0 where
-  -- a value is in the list exactly if it has P
+  -- a value is in the list exactly when it has P
   pub exactly : (x : A) → Contains xs x ↔ P x
   -- the values ascend strictly
   pub ascending : IsStrictlySortedBy cmp xs

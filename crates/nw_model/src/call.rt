@@ -101,8 +101,8 @@ fn is_same_digest(one: &Digest, other: &Digest) -> bool
     one == other
 }
 
-/// Whether two blocks are equal.
-fn is_same_block(one: &Block, other: &Block) -> bool
+/// Whether two blocks are equal. Allocates nothing.
+pub fn is_same_block(one: &Block, other: &Block) -> bool
     ensures { IsTrue result ↔ one.now ≡ other.now }
 {
     one == other

@@ -60,7 +60,7 @@ pub fn firsts_of_a_base_get_no_vote()
     ensures { FirstsOfABaseGetNoVote }
 {}
 
-/// The reply to `MissingOf` for a held block is an empty list exactly if all references of the block are satisfied, or the block is not
+/// The reply to `MissingOf` for a held block is an empty list exactly when all references of the block are satisfied, or the block is not
 /// above the garbage round.
 pub fn blocks_with_their_parents_miss_none()
     ensures { BlocksWithTheirParentsMissNone }

@@ -12,7 +12,7 @@ mod look;
 mod reply;
 mod wanted;
 
-pub use call::Call;
+pub use call::{Call, is_same_block};
 pub use event::Event;
 pub use laws::{
     beginnings_of_legal_histories_are_legal, blocks_with_their_parents_miss_none,

@@ -1,5 +1,5 @@
 -- The number of complete blocks.
-use Rattle.std.proofs.Common.{◌≡◌, List, Option, Some, None, IsSome, length, refl, sym, ◌∙◌}
+use Rattle.std.proofs.Common.{List, length, sym, ◌∙◌}
 use Rattle.std.specs.List.Sorted.{IsStrictlySortedBy}
 use Rattle.std.specs.Map.{lookup, keys_of}
 use Rattle.std.specs.BTreeMap.{is_at}
@@ -14,16 +14,8 @@ use Rattle.nw_model.specs.State.{State}
 use Rattle.nw_model.specs.Paths.{IsComplete}
 use Rattle.nw_model.specs.View.{AreComplete}
 use Rattle.nw_model.specs.Missing.{HasCount}
-use Rattle.nw_model.proofs.Maps.{digests_total, get_lookup}
-use Rattle.nw_model.proofs.Kept.{same_digest}
-
-found_one : {X : Type 0} (found : Option X) → IsSome found → (x : X) × (found ≡ Some x)
-found_one None some = absurd cc
-found_one (Some x) some = (x, refl)
-
-is_found : {X : Type 0} (found : Option X) (x : X) → found ≡ Some x → IsSome found
-is_found None x e = absurd cc
-is_found (Some y) x e = refl
+use Rattle.nw_digest.proofs.Maps.{digests_total, get_lookup, same_digest}
+use Rattle.nw_digest.proofs.Found.{which, is_there}
 
 -- the number of entries is the number of complete blocks, if they are exactly these
 pub complete_count : (s : State) (es : List (Digest × Block)) → IsStrictlySortedBy digest_cmp (keys_of es) → AreComplete s (from_entries es) → HasCount digest_cmp (IsComplete s) (length es)
@@ -32,11 +24,11 @@ complete_count s es sorted complete = (
   record {
     exactly = λ d. (
       λ among.
-          let at = found_one (lookup (is_at (digest_cmp d)) es) (IsSome-lookup_from_Contains (eq_by_cmp_equiv digests_total) d es among) in
+          let at = which (lookup (is_at (digest_cmp d)) es) (IsSome-lookup_from_Contains (eq_by_cmp_equiv digests_total) d es among) in
           ((complete d at.0).0 (get_lookup digests_total es d ∙ at.1)).1,
       λ whole.
           let held = (complete d whole.stands.0).1 (whole.stands.1.0, whole) in
-          Contains-keys_from_lookup same_digest d es (is_found (lookup (is_at (digest_cmp d)) es) whole.stands.0 (sym (get_lookup digests_total es d) ∙ held)),
+          Contains-keys_from_lookup same_digest d es (is_there (lookup (is_at (digest_cmp d)) es) whole.stands.0 (sym (get_lookup digests_total es d) ∙ held)),
     );
     ascending = sorted;
   },

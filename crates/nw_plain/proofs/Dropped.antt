@@ -12,10 +12,10 @@ use Rattle.std.proofs.lemmas.Map.Keys.{sorted_head, sorted_tail}
 use Rattle.nw_digest.specs.declared.digest.Digest.{Digest}
 use Rattle.nw_digest.specs.Order.{digest_cmp}
 use Rattle.nw_model.specs.Step.{from_round}
-use Rattle.nw_model.proofs.Maps.{digests_total, len_sorted}
+use Rattle.nw_digest.proofs.Maps.{digests_total, len_sorted}
 use Rattle.nw_model.proofs.Raised.{filtered_round}
 
-sorted_cons : {K : Type 0} (R : K → K → Ordering) (x : K) (xs : List K) → AllByRecursion (λ y. R x y ≡ Less) xs → IsStrictlySortedBy R xs → IsStrictlySortedBy R (x ∷ xs)
+pub sorted_cons : {K : Type 0} (R : K → K → Ordering) (x : K) (xs : List K) → AllByRecursion (λ y. R x y ≡ Less) xs → IsStrictlySortedBy R xs → IsStrictlySortedBy R (x ∷ xs)
 unfolding IsStrictlySortedBy
 sorted_cons R x xs above rest = (above, rest)
 
@@ -30,7 +30,7 @@ module _ {K X : Type 0} (R : K → K → Ordering) (p : K × X → Bool) where
       by false rest = rest
 
   -- entries stay in order if some are removed
-  sorted_filter : (es : List (K × X)) → IsStrictlySortedBy R (keys_of es) → IsStrictlySortedBy R (keys_of (filter p es))
+  pub sorted_filter : (es : List (K × X)) → IsStrictlySortedBy R (keys_of es) → IsStrictlySortedBy R (keys_of (filter p es))
   sorted_filter [] sorted = sorted
   sorted_filter (e ∷ es) sorted = by (p e) (sorted_filter es (sorted_tail R e.0 (keys_of es) sorted))
     where
@@ -47,7 +47,7 @@ same_length p (e ∷ es) = by (p e.1) (same_length p es)
     by true same = ap suc same
     by false same = same
 
-not_below : (a b : ℕ) → nat_lt a b ≡ not (nat_le b a)
+pub not_below : (a b : ℕ) → nat_lt a b ≡ not (nat_le b a)
 not_below a b = grind arith
 
 -- a collection drops the entries below the round

@@ -1,8 +1,8 @@
 -- Finding the complete blocks, slot by slot.
-use Rattle.std.proofs.Common.{◌≡◌, ◌↔◌, ◌⊎◌, ℕ, ◌+◌, ◌<◌, Bool, true, false, List, [], ◌∷◌, Option, Some, None, IsSome, cond, get_or, refl, ap, sym, ◌∙◌, subst, arith, inl, inr}
+use Rattle.std.proofs.Common.{◌≡◌, ◌↔◌, ◌⊎◌, ℕ, ◌+◌, Bool, true, false, List, [], ◌∷◌, Some, None, IsSome, cond, get_or, refl, ap, sym, ◌∙◌, subst, arith, inl, inr}
 use Rattle.std.specs.declared.cmp.Ordering.TheVariants.{Less}
 use Rattle.std.specs.Ordering.{eq_by_cmp, nat_cmp, ordering_then}
-use Rattle.std.specs.Cmp.{eq_by_cmp_equiv}
+use Rattle.std.specs.Cmp.{eq_by_cmp_equiv, nat_cmp_is}
 use Rattle.std.specs.List.{AllByRecursion}
 use Rattle.std.specs.List.Sorted.{IsStrictlySortedBy}
 use Rattle.std.specs.FinMap.{FinMap, get, insert, empty, from_entries, get-empty, get-insert}
@@ -17,10 +17,12 @@ use Rattle.nw_model.specs.State.{State, block_slot, certificate_slot}
 use Rattle.nw_model.specs.Paths.{IsStanding, IsComplete}
 use Rattle.nw_model.specs.Sound.{IsSound, IsIndex}
 use Rattle.nw_model.specs.View.{IsCompletedBy, AddsIfComplete, AreComplete}
-use Rattle.nw_model.proofs.Maps.{find_lookup, find_below, get_lookup, digests_total, slots_total, slots_apart}
-use Rattle.nw_model.proofs.Kept.{same_digest, after_insert, at_insert, tie}
+use Rattle.nw_digest.proofs.Maps.{find_lookup, find_below, get_lookup, digests_total, slots_total, slots_apart, same_digest, tie}
+use Rattle.nw_digest.proofs.Found.{which}
+use Rattle.nw_model.proofs.Kept.{after_insert, at_insert}
 use Rattle.nw_model.proofs.Complete.{one_block, complete_from_parents, parents_complete}
 use Rattle.std.proofs.lemmas.Bool.{cases_lt}
+use Rattle.std.proofs.lemmas.Option.{none-some}
 
 -- some slots are left, in order, and the complete blocks of the other slots are found
 pub record SoFar (s : State) (left : List (Slot × Digest)) (complete : FinMap digest_cmp Block) : Type 0 where
@@ -29,9 +31,6 @@ pub record SoFar (s : State) (left : List (Slot × Digest)) (complete : FinMap d
   pub blocks : (d : Digest) (b : Block) → (get complete d ≡ Some b) ↔ ((get s.blocks d ≡ Some b) × IsComplete s d × (lookup (is_at (slot_cmp (block_slot b))) left ≡ None))
 
 -- ---- slots in order
-
-none_some : {X : Type 0} (x : X) → None ≡ Some x → ⊥
-none_some x e = cc
 
 below_all : (q x : Slot) (ks : List Slot) → slot_cmp q x ≡ Less → AllByRecursion (λ y. slot_cmp x y ≡ Less) ks → AllByRecursion (λ y. slot_cmp q y ≡ Less) ks
 below_all q x [] less all = tt
@@ -55,7 +54,7 @@ not_behind : (q x : Slot) (d : Digest) (next : List (Slot × Digest)) → lookup
 not_behind q x d next none = by (is_at (slot_cmp q) x) none
   where
     by : (b : Bool) → cond b (Some d) (lookup (is_at (slot_cmp q)) next) ≡ None → lookup (is_at (slot_cmp q)) next ≡ None
-    by true e = absurd (none_some d (sym e))
+    by true e = absurd (none-some d (sym e))
     by false e = e
 
 -- a slot that is not left after one more slot is tested is that slot, or was not left before
@@ -73,11 +72,11 @@ found_behind q x d e next sorted found = by (is_at (slot_cmp q) x) refl
     by : (b : Bool) → is_at (slot_cmp q) x ≡ b → lookup (is_at (slot_cmp q)) ((x, d) ∷ next) ≡ Some e
     by true at =
         let same : q ≡ x = slots_apart q x (tie (slot_cmp q x) at) in
-        absurd (none_some e (sym (not_again x next d sorted) ∙ ap (λ (y : Slot). lookup (is_at (slot_cmp y)) next) (sym same) ∙ found))
+        absurd (none-some e (sym (not_again x next d sorted) ∙ ap (λ (y : Slot). lookup (is_at (slot_cmp y)) next) (sym same) ∙ found))
     by false at = ap (λ b. cond b (Some d) (lookup (is_at (slot_cmp q)) next)) at ∙ found
 
 -- a value stays if another digest, or the same value, is inserted
-stays : (m : FinMap digest_cmp Block) (k : Digest) (v : Block) (q : Digest) (x : Block) → get m q ≡ Some x → (q ≡ k → v ≡ x) → get (insert m k v) q ≡ Some x
+pub stays : (m : FinMap digest_cmp Block) (k : Digest) (v : Block) (q : Digest) (x : Block) → get m q ≡ Some x → (q ≡ k → v ≡ x) → get (insert m k v) q ≡ Some x
 stays m k v q x at same = get-insert digests_total m k v q ∙ by (eq_by_cmp digest_cmp q k) refl
   where
     by : (b : Bool) → eq_by_cmp digest_cmp q k ≡ b → cond b (Some v) (get m q) ≡ Some x
@@ -87,10 +86,7 @@ stays m k v q x at same = get-insert digests_total m k v q ∙ by (eq_by_cmp dig
 -- ---- one slot
 
 earlier : (a b m n : ℕ) → a + 1 ≡ m → slot_cmp (a, b) (m, n) ≡ Less
-earlier a b m n e = ap (λ o. ordering_then o (nat_cmp b n)) (less a m (omega (arith, e)))
-  where
-    less : (x y : ℕ) → x < y → nat_cmp x y ≡ Less
-    less x y lt = grind arith
+earlier a b m n e = ap (λ o. ordering_then o (nat_cmp b n)) (sym (nat_cmp_is a m Less (omega (arith, e))))
 
 module _ (s : State) (x : Slot) (d : Digest) (next : List (Slot × Digest)) (old : FinMap digest_cmp Block) (sound : IsSound s) (far : SoFar s ((x, d) ∷ next) old) where
   -- the certificate of the slot
@@ -106,12 +102,8 @@ module _ (s : State) (x : Slot) (d : Digest) (next : List (Slot × Digest)) (old
   -- the complete block of the slot is the tested one
   only_one : (e : Digest) (b : Block) → get s.blocks e ≡ Some b → IsComplete s e → block_slot b ≡ x → e ≡ d
   only_one e b at whole same =
-      let c = some_of whole.stands.1.1 in
+      let c = which (get s.certificates e) whole.stands.1.1 in
       sound.one_certificate e d c.0 certified.0 c.1 certified.1 (sym (sound.one_slot e b c.0 at c.1) ∙ same ∙ sym certified.2)
-    where
-      some_of : {X : Type 0} {found : Option X} → IsSome found → (y : X) × (found ≡ Some y)
-      some_of {found = Some y} h = (y, refl)
-      some_of {found = None} h = absurd cc
 
   completes : (b : Block) → get s.blocks d ≡ Some b → IsCompletedBy s old b → IsComplete s d
   completes b at (inl low) = complete_from_parents s d b sound (stands b at) (inl low)
@@ -147,7 +139,7 @@ module _ (s : State) (x : Slot) (d : Digest) (next : List (Slot × Digest)) (old
 
   -- the slot's block is found if it is complete
   adds : (new : FinMap digest_cmp Block) → AddsIfComplete s old new d → (b : Block) → get s.blocks d ≡ Some b → IsComplete s d → get new d ≡ Some b
-  adds new (inl (none, same)) b held whole = absurd (none_some b (sym none ∙ held))
+  adds new (inl (none, same)) b held whole = absurd (none-some b (sym none ∙ held))
   adds new (inr (c, here, inr (never, same))) b held whole = absurd (never (completed c here whole))
   adds new (inr (c, here, inl (how, put))) b held whole = ap (λ m. get m d) put ∙ at_insert old d c ∙ sym here ∙ held
 
@@ -182,17 +174,13 @@ all_left s entries sound indexed sorted = record {
   sorted = sorted;
   indexed = λ q d found. (indexed q d).0 (get_lookup slots_total entries q ∙ found);
   blocks = λ d b. (
-    λ at. absurd (none_some b (sym (get-empty digest_cmp d) ∙ at)),
+    λ at. absurd (none-some b (sym (get-empty digest_cmp d) ∙ at)),
     λ (held, whole, none).
-        let c = some_of whole.stands.1.1 in
+        let c = which (get s.certificates d) whole.stands.1.1 in
         let listed = (indexed (block_slot b) d).1 (c.0, c.1, sym (sound.one_slot d b c.0 held c.1)) in
-        absurd (none_some d (sym none ∙ sym (get_lookup slots_total entries (block_slot b)) ∙ listed)),
+        absurd (none-some d (sym none ∙ sym (get_lookup slots_total entries (block_slot b)) ∙ listed)),
   );
 }
-  where
-    some_of : {X : Type 0} {found : Option X} → IsSome found → (y : X) × (found ≡ Some y)
-    some_of {found = Some y} h = (y, refl)
-    some_of {found = None} h = absurd cc
 
 -- at the end the complete blocks are found
 pub none_left : (s : State) (complete : FinMap digest_cmp Block) → SoFar s [] complete → AreComplete s complete

@@ -1,5 +1,5 @@
 -- The state after one more block or certificate.
-use Rattle.std.proofs.Common.{◌≡◌, true, false, Option, Some, None, IsNone, refl}
+use Rattle.std.proofs.Common.{◌≡◌, true, false}
 use Rattle.std.specs.FinMap.{FinMap, insert}
 use Rattle.nw_digest.specs.declared.digest.Digest.{Digest}
 use Rattle.nw_codec.specs.declared.block.Block.{Block}
@@ -17,7 +17,3 @@ held_first s blocks firsts d b e f = λ i. record s { blocks = e i; firsts = f i
 
 pub held_certificate : (s : State) (certificates : FinMap digest_cmp Certificate) (c : Certificate) → certificates ≡ insert s.certificates c.digest c → record s { certificates = certificates } ≡ with_certificate s c
 held_certificate s certificates c e = λ i. record s { certificates = e i }
-
-pub absent : {A : Type 0} (found : Option A) → IsNone found → found ≡ None
-absent None h = refl
-absent (Some a) h = cc

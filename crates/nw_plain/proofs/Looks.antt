@@ -1,9 +1,8 @@
 -- Looks at slots and at rounds.
 use Rattle.std.proofs.Common.{◌≡◌, ◌↔◌, ◌∙◌, ℕ, ◌+◌, ◌<◌, Bool, true, false, List, [], ◌∷◌, ◌++◌, Option, Some, None, IsSome, ap, get_or, is_some, length, map, refl, sym, subst, take, inl, inr}
 use Rattle.std.specs.Prelude.{Contains, IsTrue}
-use Rattle.std.specs.declared.cmp.Ordering.{Ordering}
-use Rattle.std.specs.declared.cmp.Ordering.TheVariants.{Less, Equal, Greater}
-use Rattle.std.specs.Ordering.{eq_by_cmp, is_eq, nat_cmp}
+use Rattle.std.specs.declared.cmp.Ordering.TheVariants.{Less}
+use Rattle.std.specs.Ordering.{nat_cmp}
 use Rattle.std.specs.List.{AllByRecursion}
 use Rattle.std.specs.List.Sorted.{IsStrictlySortedBy}
 use Rattle.std.specs.Cmp.{eq_by_cmp_equiv}
@@ -14,7 +13,8 @@ use Rattle.std.proofs.lemmas.Bool.{false≢true}
 use Rattle.std.proofs.lemmas.List.{append-nil, append_assoc, map-append, take_more}
 use Rattle.std.proofs.lemmas.List.Elements.{Contains-push_cases}
 use Rattle.std.proofs.lemmas.Map.Lookups.{exact_unsigned}
-use Rattle.std.proofs.lemmas.Map.Views.{IsSome-lookup_from_Contains, Contains-keys_from_lookup}
+use Rattle.std.proofs.lemmas.Map.Views.{IsSome-lookup_from_Contains, Contains-keys_from_lookup, tells_apart}
+use Rattle.std.proofs.lemmas.Option.{none-some, same_Some}
 use Rattle.nw_digest.specs.declared.digest.Digest.{Digest}
 use Rattle.nw_digest.specs.Order.{Slot, digest_cmp, slot_cmp}
 use Rattle.nw_codec.specs.declared.block.Block.{Block}
@@ -27,34 +27,32 @@ use Rattle.nw_model.specs.Missing.{ListsExactly}
 use Rattle.nw_model.specs.View.{AreComplete}
 use Rattle.nw_model.proofs.Complete.{complete_there, complete_not_there}
 use Rattle.nw_model.proofs.Kept.{index_answers}
-use Rattle.nw_model.proofs.Listed.{contains_cases, contains_first, contains_later, contains_none}
+use Rattle.nw_digest.proofs.Elements.{contains_cases, contains_first, contains_later, contains_none}
 use Rattle.nw_model.proofs.Looks.{one_look}
-use Rattle.nw_model.proofs.Maps.{get_lookup, slots_apart, slots_total}
+use Rattle.nw_digest.proofs.Maps.{get_lookup, slots_apart, slots_total}
 use Rattle.nw_plain.specs.Added.{IsUnionWith}
 use Rattle.nw_plain.proofs.Wanting.{Of, adds_nothing, adds_one_more, with_key}
 
 -- ---- one slot
 
-no_digest : (d : Digest) → None ≡ Some d → ⊥
-no_digest d e = cc
-
-one_digest : (d e : Digest) → Some d ≡ Some e → d ≡ e
-one_digest d e same = cc
-
 -- a slot with no certified digest has no complete one
 pub complete_none : (s : State) (b : Bool) (found : Option Digest) → b ≡ false → found ≡ None → IsTrue b ↔ ((d : Digest) × (found ≡ Some d) × IsComplete s d)
-complete_none s b found fails none = (λ yes. absurd (false≢true (sym fails ∙ yes)), λ (d, is, whole). absurd (no_digest d (sym none ∙ is)))
+complete_none s b found fails none = (λ yes. absurd (false≢true (sym fails ∙ yes)), λ (d, is, whole). absurd (none-some d (sym none ∙ is)))
 
--- the complete blocks tell whether the certified digest of a slot is complete
-pub complete_some : (s : State) (blocks : FinMap digest_cmp Block) (b : Bool) (found : Option Digest) (d : Digest) → AreComplete s blocks → b ≡ is_some (get blocks d) → found ≡ Some d → IsTrue b ↔ ((d : Digest) × (found ≡ Some d) × IsComplete s d)
-complete_some s blocks b found d are tells at = (
-  λ yes. (d, at, complete_there s blocks d are (sym tells ∙ yes)),
-  λ (e, is, whole). by b tells (subst (λ x. IsComplete s x) (one_digest e d (sym is ∙ at)) whole),
+-- the certified digest of a slot is complete if a test says so
+pub complete_some : (s : State) (b test : Bool) (found : Option Digest) (d : Digest) → b ≡ test → found ≡ Some d → IsTrue test ↔ IsComplete s d → IsTrue b ↔ ((d : Digest) × (found ≡ Some d) × IsComplete s d)
+complete_some s b test found d same at tells = (
+  λ yes. (d, at, tells.0 (sym same ∙ yes)),
+  λ (e, is, whole). same ∙ tells.1 (subst (λ x. IsComplete s x) (same_Some e d (sym is ∙ at)) whole),
 )
+
+-- the complete blocks tell whether a digest is complete
+pub complete_among : (s : State) (blocks : FinMap digest_cmp Block) (d : Digest) → AreComplete s blocks → IsTrue (is_some (get blocks d)) ↔ IsComplete s d
+complete_among s blocks d are = (complete_there s blocks d are, λ whole. by (is_some (get blocks d)) refl whole)
   where
-    by : (answer : Bool) → answer ≡ is_some (get blocks d) → IsComplete s d → IsTrue answer
+    by : (answer : Bool) → is_some (get blocks d) ≡ answer → IsComplete s d → IsTrue answer
     by true same whole = refl
-    by false same whole = absurd (complete_not_there s blocks d are (sym same) whole)
+    by false same whole = absurd (complete_not_there s blocks d are same whole)
 
 -- ---- the authors of a round
 
@@ -74,10 +72,6 @@ adds_author old new slot round here is x = (
     | inr same ↦ inr (ap (λ (q : Slot). q.1) same)
   ])),
 )
-
--- a slot of another round adds no author
-pub adds_none : (keys : List ℕ) (slot : Slot) (round : ℕ) → (slot.0 ≡ round → ⊥) → IsUnionWith (IsSlotOf round slot) keys keys
-adds_none keys slot round elsewhere x = (inl, λ h. elim h [ inl before ↦ before | inr same ↦ absurd (elsewhere (ap (λ (q : Slot). q.0) same)) ])
 
 -- some entries are left, and the authors that the others have in the round are added
 pub record SoFar (round : ℕ) (entries left : List (Slot × Digest)) (old new : List ℕ) : Type 0 where
@@ -103,14 +97,6 @@ one_read round entries left slot d old mid new so adds ordered = record {
   ordered = λ before. ordered (so.ordered before);
 }
 
-tied : (r : Ordering) → is_eq r ≡ true → r ≡ Equal
-tied Less e = cc
-tied Equal e = refl
-tied Greater e = cc
-
-same_slot : (a b : Slot) → eq_by_cmp slot_cmp a b ≡ true → a ≡ b
-same_slot a b same = slots_apart a b (tied (slot_cmp a b) same)
-
 -- after the last entry, the authors with a digest in the round are added
 pub all_read : (round : ℕ) (entries : List (Slot × Digest)) (old new : List ℕ) → SoFar round entries [] old new → IsUnionWith (λ author. IsSome (get (from_entries {R = slot_cmp} entries) (round, author))) old new
 all_read round entries old new so author = (
@@ -120,7 +106,7 @@ all_read round entries old new so author = (
   ],
   λ h. (so.added author).1 (elim h [
     | inl before ↦ inl before
-    | inr has ↦ inr ((round, author), subst (λ es. Contains (keys_of es) (round, author)) (sym whole) (Contains-keys_from_lookup same_slot (round, author) entries (subst IsSome (get_lookup slots_total entries (round, author)) has)), refl)
+    | inr has ↦ inr ((round, author), subst (λ es. Contains (keys_of es) (round, author)) (sym whole) (Contains-keys_from_lookup (tells_apart slots_apart) (round, author) entries (subst IsSome (get_lookup slots_total entries (round, author)) has)), refl)
   ]),
 )
   where

@@ -3,7 +3,7 @@ use Rattle.std.proofs.Common.{◌≡◌, ◌↔◌, ◌⊎◌, ℕ, ◌+◌, ◌
 use Rattle.std.specs.Prelude.{Contains}
 use Rattle.std.specs.declared.cmp.Ordering.{Ordering}
 use Rattle.std.specs.declared.cmp.Ordering.TheVariants.{Less, Equal, Greater}
-use Rattle.std.specs.Ordering.{match_ordering, is_eq}
+use Rattle.std.specs.Ordering.{match_ordering}
 use Rattle.std.specs.BTreeSet.{insert_key}
 use Rattle.std.specs.FinMap.{IsAntisymmetric, from_entries, get}
 use Rattle.std.specs.List.Sorted.{IsStrictlySortedBy}
@@ -19,14 +19,13 @@ use Rattle.nw_digest.specs.declared.digest.Digest.{Digest}
 use Rattle.nw_codec.specs.declared.block.Ref.{Ref}
 use Rattle.nw_codec.specs.declared.block.Block.{Block}
 use Rattle.nw_model.specs.declared.wanted.Wanted.{Wanted}
-use Rattle.nw_model.proofs.WantedOrder.{one_wanted}
+use Rattle.nw_model.proofs.WantedOrder.{wanted_apart}
 use Rattle.nw_digest.specs.Order.{digest_cmp}
 use Rattle.nw_model.specs.State.{State}
 use Rattle.nw_model.specs.Paths.{IsSatisfied}
 use Rattle.nw_model.specs.Missing.{ListsExactly, IsNamedBy, IsWanted, Wants, wanted_cmp}
-use Rattle.nw_model.proofs.Maps.{digests_total, get_lookup}
-use Rattle.nw_model.proofs.Kept.{same_digest}
-use Rattle.nw_model.proofs.Listed.{contains_first, contains_later, contains_cases, contains_none}
+use Rattle.nw_digest.proofs.Maps.{digests_total, get_lookup, same_digest}
+use Rattle.nw_digest.proofs.Elements.{contains_first, contains_later, contains_cases, contains_none}
 use Rattle.nw_plain.specs.Added.{IsUnionWith, NamesMissing}
 
 -- ---- one more key
@@ -98,9 +97,6 @@ of_references s b old new above adds w = (
   λ among. elim ((adds w).0 among) [ inl here ↦ inl here | inr (r, in_parents, lacks) ↦ inr (above, r, in_parents, lacks.0, lacks.1) ],
   λ h. (adds w).1 (elim h [ inl here ↦ inl here | inr (high, r, in_parents, lacks, named) ↦ inr (r, in_parents, (lacks, named)) ]),
 )
-
-wanted_apart : IsAntisymmetric wanted_cmp
-wanted_apart v w e = one_wanted v w (ap is_eq e)
 
 -- an unsatisfied reference names one missing parent
 pub lacks_one : (s : State) (round : ℕ) (r : Ref) (before : ℕ) → before + 1 ≡ round → (IsSatisfied s round r → ⊥) → (old : List Wanted)

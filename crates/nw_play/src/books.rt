@@ -6,7 +6,7 @@ use nw_digest::Shared;
 use nw_interpreter::{LineFault, committee};
 use nw_script::{CommitteeLine, LimitsLine, Line};
 use nw_sig::DemoScheme;
-use nw_store::{Book, Limits};
+use nw_store::{Book, BookError, Limits};
 use std::alloc::Global;
 
 // The limits of a script without a `limits` line.
@@ -90,6 +90,7 @@ fn new_book(
 ) -> Result<Book<DemoScheme>, PlayFault> {
     match Book::new(alloc, committee.try_clone()?, limits) {
         Ok(book) => Ok(book),
-        Err(fault) => Err(PlayFault::at(number, LineFault::from(fault))),
+        Err(BookError::BadLimits) => Err(PlayFault::BadLine { line: number }),
+        Err(BookError::NoMemory) => Err(PlayFault::NoMemory),
     }
 }

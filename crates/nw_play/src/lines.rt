@@ -3,8 +3,7 @@ ghost use Rattle.std.specs.Iterator.{at_most};
 ghost use Rattle.nw_play.specs.Lines.{lines_left};
 
 use crate::fault::PlayFault;
-use nw_interpreter::LineFault;
-use nw_script::{Line, parse_line};
+use nw_script::{Line, LineFault, parse_line};
 use std::alloc::Global;
 
 /// The unread lines of a script, each with its number, counted from 1. A script has at least one line, which may be empty.
@@ -71,6 +70,7 @@ impl<'a> Iterator for Lines<'a> {
 pub fn read_line(alloc: Global, number: usize, text: &[u8]) -> Result<Line<'_>, PlayFault> {
     match parse_line(alloc, text) {
         Ok(line) => Ok(line),
-        Err(fault) => Err(PlayFault::at(number, LineFault::from(fault))),
+        Err(LineFault::Bad) => Err(PlayFault::BadLine { line: number }),
+        Err(LineFault::NoMemory) => Err(PlayFault::NoMemory),
     }
 }

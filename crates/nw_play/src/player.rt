@@ -61,46 +61,45 @@ impl<L: Home> Player<L> {
         request: &Request<'a>,
     ) -> Result<String, LineFault> {
         self.may_set_limits = false;
-        match request {
-            Request::Block(line) => bindings.block(alloc, line),
-            Request::Body(name) => bindings.body_in_hex(alloc, *name),
-            Request::Digest(name) => bindings.digest_in_hex(alloc, *name),
-            Request::Hash(word) => hash(alloc, word),
-            Request::Valid { name, signers } => bindings.valid(alloc, *name, signers),
-            Request::Gather { name, signers } => bindings.gather(alloc, *name, signers),
-            Request::Walk(ticket) => bindings.walk(alloc, *ticket),
-            Request::Write { name, signer } => self.write(rt, alloc, bindings, *name, *signer),
+        let (name, command) = match request {
+            Request::Block(line) => return bindings.block(alloc, line),
+            Request::Body(name) => return bindings.body_in_hex(alloc, *name),
+            Request::Digest(name) => return bindings.digest_in_hex(alloc, *name),
+            Request::Hash(word) => return hash(alloc, word),
+            Request::Valid { name, signers } => return bindings.valid(alloc, *name, signers),
+            Request::Gather { name, signers } => return bindings.gather(alloc, *name, signers),
+            Request::Walk(ticket) => return bindings.walk(alloc, *ticket),
+            Request::Write { name, signer } => {
+                return self.write(rt, alloc, bindings, *name, *signer);
+            }
             Request::Certify { name, signers } => {
-                self.certify(rt, alloc, bindings, *name, signers)
+                return self.certify(rt, alloc, bindings, *name, signers);
             }
-            Request::Certificate(name) => {
-                let command = Command::Certificate(bindings.digest_of(*name)?);
-                self.call(rt, alloc, bindings, Some(*name), &command)
+            Request::Look { round, author } => {
+                return self.look(rt, alloc, bindings, *round, *author);
             }
-            Request::Read(name) => {
-                let command = Command::Read(bindings.digest_of(*name)?);
-                self.call(rt, alloc, bindings, Some(*name), &command)
-            }
-            Request::Collect(round) => {
-                self.call(rt, alloc, bindings, None, &Command::Collect(*round))
-            }
-            Request::Missing(most) => {
-                self.call(rt, alloc, bindings, None, &Command::Missing(*most))
-            }
-            Request::MissingOf(name) => {
-                let command = Command::MissingOf(bindings.digest_of(*name)?);
-                self.call(rt, alloc, bindings, Some(*name), &command)
-            }
-            Request::Status => self.call(rt, alloc, bindings, None, &Command::Status),
-            Request::Look { round, author } => self.look(rt, alloc, bindings, *round, *author),
-            Request::LookRound(round) => self.look_round(rt, alloc, bindings, *round),
-            Request::Causal(name) => self.open(rt, alloc, bindings, *name, *name, false),
+            Request::LookRound(round) => return self.look_round(rt, alloc, bindings, *round),
+            Request::Causal(name) => return self.open(rt, alloc, bindings, *name, *name, false),
             Request::Open { ticket, name } => {
-                self.open(rt, alloc, bindings, *ticket, *name, true)
+                return self.open(rt, alloc, bindings, *ticket, *name, true);
             }
-            Request::Session(id) => self.select_session(rt, alloc, *id),
-            Request::Compact => self.compact(rt, alloc),
-        }
+            Request::Session(id) => return self.select_session(rt, alloc, *id),
+            Request::Compact => return self.compact(rt, alloc),
+            Request::Certificate(name) => {
+                (
+                    Some(*name),
+                    Command::Certificate(bindings.digest_of(*name)?),
+                )
+            }
+            Request::Read(name) => (Some(*name), Command::Read(bindings.digest_of(*name)?)),
+            Request::MissingOf(name) => {
+                (Some(*name), Command::MissingOf(bindings.digest_of(*name)?))
+            }
+            Request::Collect(round) => (None, Command::Collect(*round)),
+            Request::Missing(most) => (None, Command::Missing(*most)),
+            Request::Status => (None, Command::Status),
+        };
+        self.call(rt, alloc, bindings, name, &command)
     }
 
     // Writes the named block after its message is encoded, decoded and checked. The given member signs it, or its author if none is given.

@@ -18,7 +18,7 @@ use std::io::Write;
 use std::sync::Wait;
 
 /// Why a store plays no further lines.
-enum End {
+enum StoreEnd {
     /// The script ended.
     Script,
     /// A `limits` line: another store with these limits takes its place.
@@ -57,12 +57,12 @@ fn play_to_end<'a, L: Home, R: Wait, W: Write>(
     out: &mut W,
 ) -> Result<Option<Start>, PlayFault> {
     match play_all(rt, alloc, &mut player, bindings, lines, out) {
-        Ok(End::Settle) => settle_store(alloc, player, lines, out),
-        Ok(End::Limits(line)) => {
+        Ok(StoreEnd::Settle) => settle_store(alloc, player, lines, out),
+        Ok(StoreEnd::Limits(line)) => {
             drop(player);
             start_with_limits(alloc, bindings.committee(), line, lines.last_number())
         }
-        Ok(End::Script) => {
+        Ok(StoreEnd::Script) => {
             drop(player);
             Ok(None)
         }
@@ -81,7 +81,7 @@ fn play_all<'a, L: Home, R: Wait, W: Write>(
     bindings: &mut Bindings<'a>,
     lines: &mut Lines<'a>,
     out: &mut W,
-) -> Result<End, PlayFault> {
+) -> Result<StoreEnd, PlayFault> {
     match player.add_session(rt, alloc) {
         Ok(_) => play_lines(rt, alloc, player, bindings, lines, out),
         Err(fault) => Err(PlayFault::at(lines.last_number(), fault)),
@@ -96,7 +96,7 @@ fn play_lines<'a, L: Home, R: Wait, W: Write>(
     bindings: &mut Bindings<'a>,
     lines: &mut Lines<'a>,
     out: &mut W,
-) -> Result<End, PlayFault> {
+) -> Result<StoreEnd, PlayFault> {
     for (number, text) in lines.by_ref() {
         let line = read_line(alloc, number, text)?;
         match &line {
@@ -107,14 +107,14 @@ fn play_lines<'a, L: Home, R: Wait, W: Write>(
             _ => return end_of(line, player.may_set_limits, number),
         }
     }
-    Ok(End::Script)
+    Ok(StoreEnd::Script)
 }
 
 // How the line, which is not a request, ends the store. `number` is the line's number.
-fn end_of(line: Line<'_>, may_set_limits: bool, number: usize) -> Result<End, PlayFault> {
+fn end_of(line: Line<'_>, may_set_limits: bool, number: usize) -> Result<StoreEnd, PlayFault> {
     match line {
-        Line::Limits(line) if may_set_limits => Ok(End::Limits(line)),
-        Line::Settle => Ok(End::Settle),
+        Line::Limits(line) if may_set_limits => Ok(StoreEnd::Limits(line)),
+        Line::Settle => Ok(StoreEnd::Settle),
         _ => Err(PlayFault::BadLine { line: number }),
     }
 }

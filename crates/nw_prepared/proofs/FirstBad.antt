@@ -5,7 +5,7 @@ use Rattle.std.specs.List.{All}
 use Rattle.std.proofs.lemmas.List.{take-append-drop, take_all}
 use Rattle.std.proofs.lemmas.List.Elements.{All-nil, All-cons, All-append}
 use Rattle.nw_codec.specs.declared.certificate.Seal.{Seal}
-use Rattle.nw_prepared.specs.Votes.{IsFirstBad}
+use Rattle.nw_check.specs.Seals.{IsFirstBad}
 
 -- the part from a place to the end
 pub rest_is : (votes : List Seal) (n : ℕ) → slice_range votes n (length votes) ≡ drop n votes
@@ -22,11 +22,6 @@ some_votes zero empty e h = absurd cc
 some_votes (suc n) empty e h = omega arith
 
 module _ (IsGood : Seal → Type 0) where
-  -- there is no vote, so no bad one
-  pub no_votes : (votes : List Seal) → length votes ≡ 0 → All IsGood votes
-  no_votes [] h = All-nil IsGood
-  no_votes (vote ∷ votes) h = absurd (omega arith)
-
   -- a bad vote in front
   bad_in_front : (front later : List Seal) (signer : ℕ) → IsFirstBad IsGood front signer → IsFirstBad IsGood (front ++ later) signer
   bad_in_front front later signer (before, after, vote, whole, same, good, bad) =

@@ -1,9 +1,9 @@
 -- The prepared keys of members: the key at a place is that of the member at the place.
-use Rattle.std.proofs.Common.{◌≡◌, ◌∙◌, ℕ, zero, suc, ◌+◌, ◌<◌, ◌≤◌, Bool, true, false, Option, Some, None, List, [], ◌∷◌, ◌++◌, length, map, take, get_or, refl, sym, ap, subst, arith}
+use Rattle.std.proofs.Common.{◌≡◌, ◌∙◌, ℕ, zero, suc, ◌+◌, ◌<◌, Bool, true, false, Option, Some, None, List, [], ◌∷◌, ◌++◌, length, take, get_or, refl, sym, ap, arith}
 use Rattle.std.specs.Prelude.{IsTrue, MatchOption, ◌↔◌, slice_get}
 use Rattle.std.specs.Option.{option_map}
-use Rattle.std.proofs.lemmas.List.{take_more, take_all, map-append, length-map, get_or-map}
-use Rattle.std.proofs.lemmas.Option.{slice_get-map, slice_get-get_or, get_or_from_slice_get, slice_get_within}
+use Rattle.std.proofs.lemmas.List.{take_more, map-append, length-map}
+use Rattle.std.proofs.lemmas.Option.{slice_get-map, get_or_from_slice_get, slice_get_within}
 use Rattle.nw_codec.specs.Same.{same_bytes}
 use Rattle.nw_codec.specs.Typed.{IsSignature}
 use Rattle.nw_codec.specs.declared.certificate.Signature.{Signature}
@@ -82,7 +82,3 @@ next_key before after members n p key so found is e =
     ∙ (ap (λ (front : List Key). front ++ p.key ∷ []) so
     ∙ (ap (λ (k : Key). take n (keys members) ++ k ∷ []) (is ∙ sym at)
     ∙ sym (take_more (keys members) n key long))))
-
--- all keys are prepared
-pub all_keys : (prepared : List PreparedKey) (members : List Member) (n : ℕ) → prepared_keys prepared ≡ take n (keys members) → length members ≤ n → prepared_keys prepared ≡ keys members
-all_keys prepared members n so h = so ∙ take_all n (keys members) (omega (arith, length-map members (λ (m : Member). m.key)))

@@ -89,7 +89,7 @@ impl Verifier<Ed25519> for PreparedCommittee {
     }
 
     fn first_bad_signer(&self, certificate: &Certificate) -> Option<u16> {
-        let text = text_of_vote(&certificate.digest, certificate.round, certificate.author);
+        let text = text_of_vote(&certificate.subject());
         first_bad(self, &text, certificate.votes.as_slice())
     }
 }

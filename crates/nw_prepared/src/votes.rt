@@ -1,9 +1,10 @@
 //! Verifies votes together: one inversion serves the points of several votes.
 ghost use Rattle.std.specs.Prelude.{◌≡◌, if◌then◌else◌, Some, MatchOption, All, take};
 ghost use Rattle.nw_codec.specs.Same.{same_bytes};
+ghost use Rattle.nw_check.specs.Seals.{IsSealFor, IsFirstBad};
 ghost use Rattle.nw_curve.specs.Coding.{encoded};
 ghost use Rattle.nw_curve.specs.Inverse.{IsInverse, HasInverse};
-ghost use Rattle.nw_prepared.specs.Votes.{IsSealFor, IsFirstBad};
+ghost use Rattle.nw_ed25519.specs.Accepts.{accepts};
 
 use crate::PreparedCommittee;
 use nw_codec::Seal;
@@ -21,8 +22,8 @@ struct Verdict {
 
 /// The signer of the first vote with a bad signature for the text, or `None` if there is no such vote.
 pub(crate) fn first_bad(committee: &PreparedCommittee, text: &[u8], votes: &[Seal]) -> Option<u16>
-    ensures { MatchOption result (All (IsSealFor committee.now text.now) votes.now)
-        (IsFirstBad (IsSealFor committee.now text.now) votes.now) }
+    ensures { MatchOption result (All (IsSealFor accepts committee.now text.now) votes.now)
+        (IsFirstBad (IsSealFor accepts committee.now text.now) votes.now) }
 {
     if votes.len() <= TOGETHER {
         return verdict_on(committee, text, votes, &Number::one()).bad;
@@ -44,8 +45,8 @@ fn verdict_on(
     product: &Number,
 ) -> Verdict
     requires { HasInverse product.now }
-    ensures bad { MatchOption result.bad (All (IsSealFor committee.now text.now) votes.now)
-        (IsFirstBad (IsSealFor committee.now text.now) votes.now) }
+    ensures bad { MatchOption result.bad (All (IsSealFor accepts committee.now text.now) votes.now)
+        (IsFirstBad (IsSealFor accepts committee.now text.now) votes.now) }
     ensures inverse { IsInverse product.now result.inverse }
 {
     if votes.is_empty() {

@@ -1,38 +1,41 @@
 -- Which digests belong to a range of rounds.
-use Rattle.std.proofs.Common.{◌≡◌, ◌∙◌, ◌⊎◌, inl, inr, ℕ, ◌+◌, ◌<◌, ◌≤◌, Bool, true, false, cond, not, ◌&&◌, ◌||◌, ◌++◌, List, [], ◌∷◌, map, Bor, Option, Some, None, IsSome, Result, Ok, Err, zero, suc, refl, sym, ap, subst, arith}
-use Rattle.std.specs.Prelude.{All, filter, Contains, IfOk, nat_le, slice_get}
+use Rattle.std.proofs.Common.{◌≡◌, ◌∙◌, ◌⊎◌, inl, inr, ℕ, ◌+◌, ◌<◌, ◌≤◌, Bool, true, false, cond, not, ◌&&◌, ◌||◌, ◌++◌, List, [], ◌∷◌, map, Bor, Option, Some, None, zero, suc, refl, sym, ap, subst, arith}
+use Rattle.std.specs.Prelude.{All, filter, Contains, nat_le, slice_get, ◌-◌, length, get_or}
 use Rattle.std.specs.Bool.{MatchBool}
 use Rattle.std.specs.declared.cmp.Ordering.{Ordering}
 use Rattle.std.specs.declared.cmp.Ordering.TheVariants.{Less, Equal, Greater}
 use Rattle.std.specs.declared.ops.Bound.TheVariants.{Included, Excluded}
-use Rattle.std.specs.Ordering.{nat_cmp, is_gt, is_le, eq_by_cmp, ordering_then}
+use Rattle.std.specs.Ordering.{nat_cmp, is_gt, is_le, is_lt, eq_by_cmp, ordering_then}
 use Rattle.std.specs.Cmp.{IsTotalOrder, eq_by_cmp_equiv, nat_cmp_is}
-use Rattle.std.specs.List.{IsDistinct, list_any}
-use Rattle.std.specs.List.Sorted.{IsStrictlySortedBy}
+use Rattle.std.specs.List.{IsDistinct, list_any, dedup, dedup_from}
+use Rattle.std.specs.List.Sorted.{IsSorted, IsStrictlySortedBy}
+use Rattle.std.specs.Option.{option_map_or}
 use Rattle.std.specs.Map.{lookup, keys_of, values_of}
 use Rattle.std.specs.BTreeMap.{is_at}
 use Rattle.std.specs.FinMap.{get}
 use Rattle.std.specs.BTreeMap.Range.{IsLeBy, range_contains}
 use Rattle.std.specs.Map.Iter.{deref_pair}
 use Rattle.std.proofs.lemmas.Bool.{le-leb, lt-leb, ltb-true, ltb-false}
-use Rattle.std.proofs.lemmas.List.Elements.{All-head, All-tail, All-weaker}
+use Rattle.std.proofs.lemmas.List.Elements.{All-head, All-tail, All-weaker, filter_agree}
 use Rattle.std.proofs.lemmas.List.Folds.{list_any-append}
-use Rattle.std.proofs.lemmas.Cmp.{nat_cmp_total}
-use Rattle.std.proofs.lemmas.Map.Lookups.{exact_unsigned}
 use Rattle.std.proofs.lemmas.Map.Entries.{lookup-filter-keys}
-use Rattle.std.proofs.lemmas.Map.Keys.{IsDistinct-from_sorted}
+use Rattle.std.proofs.lemmas.List.Kept.{Contains-dedup_nat, Contains-from_dedup, IsStrictlySortedBy-filter}
+use Rattle.std.proofs.lemmas.Map.Keys.{IsDistinct-from_sorted, IsStrictlyIncreasing-dedup, sorted_from_strictly_increasing, sorted_head, sorted_tail}
 use Rattle.std.proofs.lemmas.Map.Made.{Contains-from_values_of, Contains-values_of, IsDistinct-keys_filter}
 use Rattle.std.proofs.lemmas.Map.Views.{Contains-from_any, Contains-from_lookup, list_any-from_Contains, lookup-from_Contains}
 use Rattle.std.proofs.lemmas.Bool.Decides.{nat_tests}
-use lib.Dec.{leb, ltb}
+use lib.Dec.{eqb, leb, ltb}
 use Rattle.nw_digest.specs.declared.digest.Digest.{Digest}
 use Rattle.nw_rounds.specs.declared.kind.DigestKind.{DigestKind}
 use Rattle.nw_rounds.specs.declared.kind.DigestKind.TheVariants.{First, Certified}
 use Rattle.nw_digest.specs.Order.{digest_cmp, Slot}
+use Rattle.nw_digest.proofs.Maps.{digests_total, same_digest, tie}
+use Rattle.nw_digest.proofs.Elements.{contains_first, contains_later, contains_cases, contains_none}
+use Rattle.nw_digest.proofs.Found.{which, is_there}
 use Rattle.nw_rounds.specs.Slots.{AreAuthorsAt, AreDigestsBetween, HasAllDigests, HasDigest, IsDigestAt, Tables}
-use Rattle.nw_rounds.specs.Places.{ArePlacesBetween, BeginsBelow, Place, place_cmp, kind_cmp, map_of, tables_of}
-use Rattle.nw_rounds.proofs.SlotLemmas.{digests_apart, digests_total, places_apart, places_total}
-use Rattle.nw_rounds.proofs.OfKind.{get_in, equal_from_is_eq}
+use Rattle.nw_rounds.specs.Places.{ArePlacesBetween, BeginsBelow, Place, place_cmp, kind_cmp, map_of, tables_of, with_author}
+use Rattle.nw_rounds.proofs.SlotLemmas.{places_apart, places_total}
+use Rattle.nw_rounds.proofs.OfKind.{get_in}
 
 -- no place of a round comes before its first place
 from_first : (author : ℕ) (t : DigestKind) → is_le (ordering_then (nat_cmp 0 author) (kind_cmp First t)) ≡ true
@@ -42,7 +45,7 @@ from_first author Certified = elim author as (λ a. is_le (ordering_then (nat_cm
 trichotomy : (a b : ℕ) → (a < b) ⊎ ((a ≡ b) ⊎ (b < a))
 trichotomy a b = grind arith
 
--- the first place of round n is p or comes before p exactly if n is at most p's round
+-- the first place of round n is p or comes before p exactly when n is at most p's round
 from_start : (n : ℕ) (p : Place) → is_le (place_cmp ((n, 0), First) p) ≡ leb n p.0.0
 from_start n p = by (trichotomy n p.0.0)
   where
@@ -85,10 +88,6 @@ bounds_of_between from to round e = grind (arith, nat_tests)
 between_of_bounds : (from to round : ℕ) → from ≤ round → round < to → is_between from to round ≡ true
 between_of_bounds from to round low high = grind (arith, nat_tests)
 
-filter_same : {X : Type 0} (p q : X → Bool) (xs : List X) → ((x : X) → p x ≡ q x) → filter p xs ≡ filter q xs
-filter_same p q [] same = refl
-filter_same p q (x ∷ xs) same = ap (λ b. cond b (x ∷ filter p xs) (filter p xs)) (same x) ∙ ap (λ rest. cond (q x) (x ∷ rest) rest) (filter_same p q xs same)
-
 kept_only : (b : Bool) (found : Option Digest) (d : Digest) → cond b found None ≡ Some d → (b ≡ true) × (found ≡ Some d)
 kept_only true found d e = (refl, e)
 kept_only false found d e = cc
@@ -104,40 +103,31 @@ all_listed es round d (author, is) = elim is [ inl first ↦ by First first | in
     by : (t : DigestKind) → get (map_of (tables_of es) t) (round, author) ≡ Some d → Contains (values_of es) d
     by t found =
         Contains-values_of es ((round, author), t) d
-        (Contains-from_lookup (λ x y e. places_apart x y (equal_from_is_eq (place_cmp x y) e)) ((round, author), t) d es (sym (at_kind es (round, author) t) ∙ found))
-
-is_there : {X : Type 0} (found : Option X) (x : X) → found ≡ Some x → IsSome found
-is_there found x e = subst IsSome (sym e) refl
-
-which : {X : Type 0} (found : Option X) → IsSome found → (x : X) × (found ≡ Some x)
-which None h = absurd cc
-which (Some x) h = (x, refl)
-
-contains_first : {X : Type 0} (x : X) (xs : List X) → Contains (x ∷ xs) x
-contains_first x xs = (0, omega arith, refl)
-
-contains_later : {X : Type 0} (y : X) (xs : List X) (x : X) → Contains xs x → Contains (y ∷ xs) x
-contains_later y xs x (k, lt, at) = (suc k, omega arith, at)
-
-contains_cases : {X : Type 0} (y : X) (xs : List X) (x : X) → Contains (y ∷ xs) x → (y ≡ x) ⊎ Contains xs x
-contains_cases y xs x (zero, lt, at) = inl at
-contains_cases y xs x (suc k, lt, at) = inr (k, omega arith, at)
-
-contains_none : {X : Type 0} (x : X) → Contains [] x → ⊥
-contains_none x (k, lt, at) = omega arith
+        (Contains-from_lookup (λ x y e. places_apart x y (tie (place_cmp x y) e)) ((round, author), t) d es (sym (at_kind es (round, author) t) ∙ found))
 
 -- rs has the entries from the first place of `from` up to the first place of `to`
 module _ (es rs : List (Place × Digest)) (from to : ℕ) (sorted : IsStrictlySortedBy place_cmp (keys_of es))
     (part : rs ≡ filter (λ e. range_contains place_cmp (Included ((from, 0), First)) (Excluded ((to, 0), First)) e.0) es) where
   entries_between : rs ≡ filter (λ e. is_between from to e.0.0.0) es
-  entries_between = part ∙ filter_same _ _ es (λ e. in_rounds from to e.0)
+  entries_between = part ∙ filter_agree _ _ (λ e. in_rounds from to e.0) es
 
   apart : IsDistinct (eq_by_cmp place_cmp) (keys_of rs)
   apart = rw entries_between (IsDistinct-keys_filter (eq_by_cmp place_cmp) _ es (IsDistinct-from_sorted place_cmp (keys_of es) sorted))
 
   lookup_between : (p : Place) → lookup (is_at (place_cmp p)) rs ≡ cond (is_between from to p.0.0) (lookup (is_at (place_cmp p)) es) None
   lookup_between p = ap (lookup (is_at (place_cmp p))) entries_between
-      ∙ lookup-filter-keys (is_at (place_cmp p)) (λ (q : Place). is_between from to q.0.0) (is_between from to p.0.0) (λ q at. ap (λ (q : Place). is_between from to q.0.0) (sym (places_apart p q (equal_from_is_eq (place_cmp p q) at)))) es
+      ∙ lookup-filter-keys (is_at (place_cmp p)) (λ (q : Place). is_between from to q.0.0) (is_between from to p.0.0) (λ q at. ap (λ (q : Place). is_between from to q.0.0) (sym (places_apart p q (tie (place_cmp p q) at)))) es
+
+  keys_filtered : (p : Place → Bool) (xs : List (Place × Digest)) → keys_of (filter (λ e. p e.0) xs) ≡ filter p (keys_of xs)
+  keys_filtered p [] = refl
+  keys_filtered p (x ∷ xs) = by (p x.0) (keys_filtered p xs)
+    where
+      by : (b : Bool) → keys_of (filter (λ e. p e.0) xs) ≡ filter p (keys_of xs) → keys_of (cond b (x ∷ filter (λ e. p e.0) xs) (filter (λ e. p e.0) xs)) ≡ cond b (x.0 ∷ filter p (keys_of xs)) (filter p (keys_of xs))
+      by true same = ap (λ rest. x.0 ∷ rest) same
+      by false same = same
+
+  pub ascend : IsStrictlySortedBy place_cmp (keys_of rs)
+  ascend = subst (IsStrictlySortedBy place_cmp) (sym (ap keys_of entries_between ∙ keys_filtered (λ (p : Place). is_between from to p.0.0) es)) (IsStrictlySortedBy-filter place_cmp (λ (p : Place). is_between from to p.0.0) (keys_of es) sorted)
 
   pub are_places : ArePlacesBetween (tables_of es) from to rs
   are_places = record {
@@ -147,7 +137,7 @@ module _ (es rs : List (Place × Digest)) (from to : ℕ) (sorted : IsStrictlySo
           let here = bounds_of_between from to p.0.0 both.0 in
           (here.0, here.1, at_kind es p.0 p.1 ∙ both.1)),
       (λ (low, high, is).
-          Contains-from_lookup (λ x y e. places_apart x y (equal_from_is_eq (place_cmp x y) e)) p d rs
+          Contains-from_lookup (λ x y e. places_apart x y (tie (place_cmp x y) e)) p d rs
           (lookup_between p ∙ ap (λ b. cond b (lookup (is_at (place_cmp p)) es) None) (between_of_bounds from to p.0.0 low high) ∙ sym (at_kind es p.0 p.1) ∙ is)),
     );
     once = apart;
@@ -177,14 +167,11 @@ module _ (t : Tables) (from to : ℕ) (rs : List (Place × Digest)) (are : ArePl
   pub are_digests : (ks : List Digest) → ((d : Digest) → list_any (eq_by_cmp digest_cmp d) ks ≡ list_any (eq_by_cmp digest_cmp d) (values_of rs)) → IsStrictlySortedBy digest_cmp ks → AreDigestsBetween t from to ks
   are_digests ks same ascending = record {
     exactly = λ d. (
-      (λ has. of_place d (Contains-from_any one d (values_of rs) (sym (same d) ∙ list_any-from_Contains (eq_by_cmp_equiv digests_total) d ks has))),
-      (λ is. Contains-from_any one d ks (same d ∙ list_any-from_Contains (eq_by_cmp_equiv digests_total) d (values_of rs) (at_place d is))),
+      (λ has. of_place d (Contains-from_any same_digest d (values_of rs) (sym (same d) ∙ list_any-from_Contains (eq_by_cmp_equiv digests_total) d ks has))),
+      (λ is. Contains-from_any same_digest d ks (same d ∙ list_any-from_Contains (eq_by_cmp_equiv digests_total) d (values_of rs) (at_place d is))),
     );
     ascending = ascending;
   }
-    where
-      one : (a b : Digest) → eq_by_cmp digest_cmp a b ≡ true → a ≡ b
-      one a b e = digests_apart a b (equal_from_is_eq (digest_cmp a b) e)
 
 -- ---- the authors of a round
 
@@ -207,6 +194,71 @@ of_author (e ∷ rs) p d has = elim (contains_cases e rs (p, d) has) [
   | inr later ↦ contains_later e.0.0.1 (authors_of rs) p.0.1 (of_author rs p d later)
 ]
 
+-- of two places of one round, the first has no higher author
+author_up : (p q : Place) → p.0.0 ≡ q.0.0 → place_cmp p q ≡ Less → is_lt (nat_cmp q.0.1 p.0.1) ≡ false
+author_up p q one before = by (trichotomy p.0.1 q.0.1)
+  where
+    by : (p.0.1 < q.0.1) ⊎ ((p.0.1 ≡ q.0.1) ⊎ (q.0.1 < p.0.1)) → is_lt (nat_cmp q.0.1 p.0.1) ≡ false
+    by (inl low) = ap is_lt (sym (nat_cmp_is q.0.1 p.0.1 Greater low))
+    by (inr (inl same)) = ap is_lt (sym (nat_cmp_is q.0.1 p.0.1 Equal (sym same)))
+    by (inr (inr high)) =
+        let rounds : nat_cmp p.0.0 q.0.0 ≡ Equal = sym (nat_cmp_is p.0.0 q.0.0 Equal one) in
+        let authors : nat_cmp p.0.1 q.0.1 ≡ Greater = sym (nat_cmp_is p.0.1 q.0.1 Greater high) in
+        let greater : place_cmp p q ≡ Greater = ap (λ r. ordering_then (ordering_then r (nat_cmp p.0.1 q.0.1)) (kind_cmp p.1 q.1)) rounds ∙ ap (λ r. ordering_then r (kind_cmp p.1 q.1)) authors in
+        let no : Less ≡ Greater = sym before ∙ greater in cc
+
+-- the authors of places of one round ascend
+authors_ascend : (round : ℕ) (rs : List (Place × Digest)) → IsStrictlySortedBy place_cmp (keys_of rs) → ((e : Place × Digest) → Contains rs e → e.0.0.0 ≡ round) → IsSorted nat_cmp (authors_of rs)
+authors_ascend round [] sorted one k d from within = absurd (omega arith)
+authors_ascend round (e ∷ []) sorted one k d from within = absurd (omega arith)
+authors_ascend round (e ∷ f ∷ rs) sorted one zero d from within =
+    author_up e.0 f.0 (one e (contains_first e (f ∷ rs)) ∙ sym (one f (contains_later e (f ∷ rs) f (contains_first f rs)))) (sorted_head place_cmp e.0 (keys_of (f ∷ rs)) sorted).0
+authors_ascend round (e ∷ f ∷ rs) sorted one (suc k) d from within =
+    let next : suc k + 1 ≡ suc (k + 1) = omega arith in
+    subst (λ n. is_lt (nat_cmp (get_or (authors_of (e ∷ f ∷ rs)) n d) (get_or (authors_of (f ∷ rs)) k d)) ≡ false) (sym next)
+    (authors_ascend round (f ∷ rs) (sorted_tail place_cmp e.0 (keys_of (f ∷ rs)) sorted) (λ x among. one x (contains_later e (f ∷ rs) x among)) k d (omega arith) (omega arith))
+
+-- ---- one more author
+
+-- the list with y at the end, unless it is the last one already
+abbrev with_last : List ℕ → ℕ → List ℕ
+with_last [] y = y ∷ []
+with_last (x ∷ []) y = cond (eqb y x) (x ∷ []) (x ∷ y ∷ [])
+with_last (x ∷ z ∷ zs) y = x ∷ with_last (z ∷ zs) y
+
+either : (b : Bool) (x : ℕ) (us vs : List ℕ) → cond b (x ∷ us) (x ∷ vs) ≡ x ∷ cond b us vs
+either true x us vs = refl
+either false x us vs = refl
+
+is_with_last : (xs : List ℕ) (y : ℕ) → with_author xs y ≡ with_last xs y
+is_with_last [] y = refl
+is_with_last (x ∷ []) y = refl
+is_with_last (x ∷ z ∷ zs) y =
+    let next : length (x ∷ z ∷ zs) - 1 ≡ suc (length (z ∷ zs) - 1) = omega arith in
+    ap (λ n. cond (option_map_or (λ last. eqb y last) (slice_get (x ∷ z ∷ zs) n) false) (x ∷ z ∷ zs) (x ∷ z ∷ zs ++ y ∷ [])) next
+    ∙ either (option_map_or (λ last. eqb y last) (slice_get (z ∷ zs) (length (z ∷ zs) - 1)) false) x (z ∷ zs) (z ∷ zs ++ y ∷ [])
+    ∙ ap (λ rest. x ∷ rest) (is_with_last (z ∷ zs) y)
+
+after_first : (k x : ℕ) (xs : List ℕ) (y : ℕ) → with_last (k ∷ dedup_from eqb x xs) y ≡ k ∷ with_last (dedup_from eqb x xs) y
+after_first k x [] y = refl
+after_first k x (z ∷ zs) y = by (eqb z x) (after_first k x zs y)
+  where
+    by : (b : Bool) → with_last (k ∷ dedup_from eqb x zs) y ≡ k ∷ with_last (dedup_from eqb x zs) y → with_last (k ∷ cond b (dedup_from eqb x zs) (x ∷ dedup_from eqb z zs)) y ≡ k ∷ with_last (cond b (dedup_from eqb x zs) (x ∷ dedup_from eqb z zs)) y
+    by true rest = rest
+    by false rest = refl
+
+dedup_from_more : (k : ℕ) (xs : List ℕ) (y : ℕ) → with_last (dedup_from eqb k xs) y ≡ dedup_from eqb k (xs ++ y ∷ [])
+dedup_from_more k [] y = refl
+dedup_from_more k (x ∷ xs) y = by (eqb x k) (dedup_from_more k xs y) (dedup_from_more x xs y)
+  where
+    by : (b : Bool) → with_last (dedup_from eqb k xs) y ≡ dedup_from eqb k (xs ++ y ∷ []) → with_last (dedup_from eqb x xs) y ≡ dedup_from eqb x (xs ++ y ∷ []) → with_last (cond b (dedup_from eqb k xs) (k ∷ dedup_from eqb x xs)) y ≡ cond b (dedup_from eqb k (xs ++ y ∷ [])) (k ∷ dedup_from eqb x (xs ++ y ∷ []))
+    by true same other = same
+    by false same other = after_first k x xs y ∙ ap (λ rest. k ∷ rest) other
+
+pub dedup_more : (xs : List ℕ) (y : ℕ) → with_author (dedup eqb xs) y ≡ dedup eqb (xs ++ y ∷ [])
+dedup_more [] y = refl
+dedup_more (x ∷ xs) y = is_with_last (dedup_from eqb x xs) y ∙ dedup_from_more x xs y
+
 module _ (t : Tables) (round : ℕ) (rs : List (Place × Digest)) (are : ArePlacesBetween t round (round + 1) rs) where
   -- the author of a place has a digest in the round
   of_round : (author : ℕ) → Contains (authors_of rs) author → HasDigest t (round, author)
@@ -228,22 +280,18 @@ module _ (t : Tables) (round : ℕ) (rs : List (Place × Digest)) (are : ArePlac
     | inr certified ↦ let (d, is) = which (get t.certified (round, author)) certified in of_author rs ((round, author), Certified) d ((are.exactly ((round, author), Certified) d).1 (omega arith, omega arith, is))
   ]
 
-  -- a set with the authors of these places has exactly the authors of the round
-  pub are_authors : (ks : List ℕ) → ((a : ℕ) → list_any (eq_by_cmp nat_cmp a) ks ≡ list_any (eq_by_cmp nat_cmp a) (authors_of rs)) → IsStrictlySortedBy nat_cmp ks → AreAuthorsAt t round ks
-  are_authors ks same ascending = record {
-    exactly = λ a. (
-      (λ has. of_round a (Contains-from_any one a (authors_of rs) (sym (same a) ∙ list_any-from_Contains (eq_by_cmp_equiv nat_cmp_total) a ks has))),
-      (λ is. Contains-from_any one a ks (same a ∙ list_any-from_Contains (eq_by_cmp_equiv nat_cmp_total) a (authors_of rs) (in_round a is))),
-    );
-    ascending = ascending;
-  }
-    where
-      one : (a b : ℕ) → eq_by_cmp nat_cmp a b ≡ true → a ≡ b
-      one a b e = exact_unsigned a b (equal_from_is_eq (nat_cmp a b) e)
+  of_one_round : (e : Place × Digest) → Contains rs e → e.0.0.0 ≡ round
+  of_one_round e among = let here = (are.exactly e.0 e.1).0 among in omega (arith, here.0, here.1)
 
-pub if_ok : {T E : Type 0} (r : Result T E) {P Q : T → Type 0} → ((x : T) → P x → Q x) → IfOk r P → IfOk r Q
-if_ok (Ok x) f p = f x p
-if_ok (Err e) f p = p
+  -- the authors of these places, each run of one author once, are exactly the authors of the round
+  pub are_authors : (ks : List ℕ) → ks ≡ dedup eqb (authors_of rs) → IsStrictlySortedBy place_cmp (keys_of rs) → AreAuthorsAt t round ks
+  are_authors ks is ascending = subst (AreAuthorsAt t round) (sym is) (record {
+    exactly = λ a. (
+      (λ has. of_round a (Contains-from_dedup eqb (authors_of rs) a has)),
+      (λ has. Contains-dedup_nat (authors_of rs) a (in_round a has)),
+    );
+    ascending = sorted_from_strictly_increasing (dedup eqb (authors_of rs)) (IsStrictlyIncreasing-dedup (authors_of rs) (authors_ascend round rs ascending of_one_round));
+  })
 
 -- a set and a list still have the same keys after each gets one more
 pub one_more : {K : Type 0} {R : K → K → Ordering} (o : IsTotalOrder R) (ks ns ys : List K) (y : K) → ((q : K) → list_any (is_at (R q)) ns ≡ cond (is_at (R y) q) true (list_any (is_at (R q)) ks))
@@ -287,7 +335,7 @@ not_less p q h = by (trichotomy p.0.0 q.0.0)
     by (inr (inr after)) =
         let no : true ≡ false = ap (λ r. is_gt (ordering_then (ordering_then r (nat_cmp p.0.1 q.0.1)) (kind_cmp p.1 q.1))) (nat_cmp_is p.0.0 q.0.0 Greater after) ∙ h in cc
 
--- any entry belongs to a lower round exactly if the first one does
+-- any entry belongs to a lower round exactly when the first one does
 pub first_tells : (round : ℕ) (es : List (Place × Digest)) (k : Place) (d : Digest) → slice_get es 0 ≡ Some (k, d) → All (IsLeBy place_cmp k) (keys_of es)
     → MatchBool (ltb k.0.0 round) (BeginsBelow round es) (All (λ p. round ≤ p.0.0) (keys_of es))
 first_tells round es k d first least = by (ltb k.0.0 round) refl

@@ -1,25 +1,19 @@
 -- What a lookup by kind finds in the one map that holds the digests of both kinds.
 use Rattle.std.proofs.Common.{◌≡◌, ◌∙◌, ℕ, Bool, true, false, cond, ◌&&◌, List, [], ◌∷◌, Option, Some, None, refl, sym, ap}
 use Rattle.std.specs.Prelude.{filter, nat_le}
-use Rattle.std.specs.declared.cmp.Ordering.{Ordering}
-use Rattle.std.specs.declared.cmp.Ordering.TheVariants.{Less, Equal, Greater}
-use Rattle.std.specs.Ordering.{is_eq, eq_by_cmp, ordering_then}
-use Rattle.std.specs.Cmp.{eq_by_cmp_equiv}
+use Rattle.std.specs.Ordering.{is_eq, eq_by_cmp}
+use Rattle.std.specs.Cmp.{eq_by_cmp_equiv, tied_then}
 use Rattle.std.specs.Map.{lookup}
 use Rattle.std.specs.BTreeMap.{is_at}
 use Rattle.std.specs.FinMap.{find, from_entries, get, insert, retain_keys, get-from_entries, get-insert, get-retain_keys, same_map}
 use Rattle.std.proofs.lemmas.Map.Entries.{lookup-filter-keys}
+use Rattle.std.proofs.lemmas.Bool.{and_parts}
 use Rattle.nw_digest.specs.declared.digest.Digest.{Digest}
 use Rattle.nw_rounds.specs.declared.kind.DigestKind.{DigestKind}
 use Rattle.nw_rounds.specs.declared.kind.DigestKind.TheVariants.{First, Certified}
 use Rattle.nw_digest.specs.Order.{Slot, slot_cmp}
 use Rattle.nw_rounds.specs.Places.{Place, of_kind, is_kind, place_cmp, kind_cmp}
-use Rattle.nw_rounds.proofs.SlotLemmas.{slots_apart, slots_total}
-
-tied_then : (a b : Ordering) → is_eq (ordering_then a b) ≡ (is_eq a && is_eq b)
-tied_then Less b = refl
-tied_then Equal b = refl
-tied_then Greater b = refl
+use Rattle.nw_digest.proofs.Maps.{slots_apart, slots_total, tie}
 
 kind_tied : (s t : DigestKind) → is_eq (kind_cmp s t) ≡ is_kind s t
 kind_tied First First = refl
@@ -35,18 +29,9 @@ and_false : (b : Bool) → (b && false) ≡ false
 and_false true = refl
 and_false false = refl
 
-and_left : (a b : Bool) → (a && b) ≡ true → a ≡ true
-and_left true b e = refl
-and_left false b e = cc
-
-pub equal_from_is_eq : (r : Ordering) → is_eq r ≡ true → r ≡ Equal
-equal_from_is_eq Less e = cc
-equal_from_is_eq Equal e = refl
-equal_from_is_eq Greater e = cc
-
--- places compare as equal exactly if their slots do and their kinds are the same
+-- places compare as equal exactly when their slots do and their kinds are the same
 pub place_tied : (q k : Slot) (s t : DigestKind) → is_at (place_cmp (q, s)) (k, t) ≡ (eq_by_cmp slot_cmp q k && is_kind s t)
-place_tied q k s t = tied_then (slot_cmp q k) (kind_cmp s t) ∙ ap (λ b. is_eq (slot_cmp q k) && b) (kind_tied s t)
+place_tied q k s t = sym (tied_then (slot_cmp q k) (kind_cmp s t)) ∙ ap (λ b. is_eq (slot_cmp q k) && b) (kind_tied s t)
 
 picked : (q k : Slot) (v : Digest) (rest : List (Slot × Digest)) (found : Option Digest) (one : Bool)
     → find slot_cmp q rest ≡ found → find slot_cmp q (cond one ((k, v) ∷ rest) rest) ≡ cond (eq_by_cmp slot_cmp q k && one) (Some v) found
@@ -89,6 +74,6 @@ module _ (m n : List (Place × Digest)) where
   kept_in round is t = same_map slots_total slots_apart _ _ (λ q.
       get_in t q n ∙ ap (lookup (is_at (place_cmp (q, t)))) is
       ∙ lookup-filter-keys (is_at (place_cmp (q, t))) (λ p. nat_le round p.0.0) (nat_le round q.0)
-      (λ p at. ap (λ (slot : Slot). nat_le round slot.0) (sym (slots_apart q p.0 (equal_from_is_eq (slot_cmp q p.0) (and_left _ _ (sym (place_tied q p.0 t p.1) ∙ at)))))) m
+      (λ p at. ap (λ (slot : Slot). nat_le round slot.0) (sym (slots_apart q p.0 (tie (slot_cmp q p.0) (and_parts _ _ (sym (place_tied q p.0 t p.1) ∙ at)).0)))) m
       ∙ ap (λ found. cond (nat_le round q.0) found None) (sym (get_in t q m))
       ∙ sym (get-retain_keys (from_entries (of_kind t m)) (λ slot. nat_le round slot.0) q (λ x e. ap (λ (slot : Slot). nat_le round slot.0) (sym (slots_apart q x e)))))

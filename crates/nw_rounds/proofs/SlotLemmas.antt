@@ -1,28 +1,15 @@
--- The orders of slots and digests.
-use Rattle.std.proofs.Common.{◌≡◌, ℕ, List, refl, ap, subst}
+-- The order of places.
+use Rattle.std.proofs.Common.{◌≡◌, ℕ, refl, subst}
 use Rattle.std.specs.Cmp.{IsTotalOrder}
-use Rattle.std.specs.Cmp.Lexicographic.{nat_list_cmp_total}
 use Rattle.std.specs.Ordering.{nat_cmp}
 use Rattle.std.specs.FinMap.{IsAntisymmetric}
 use Rattle.std.proofs.lemmas.Cmp.{on_total, then_total, nat_cmp_total}
-use Rattle.std.proofs.lemmas.Map.Lookups.{exact_bytes, exact_unsigned, exact_pairs}
-use Rattle.nw_digest.specs.declared.digest.Digest.{Digest}
+use Rattle.std.proofs.lemmas.Map.Lookups.{exact_pairs}
 use Rattle.nw_rounds.specs.declared.kind.DigestKind.{DigestKind}
 use Rattle.nw_rounds.specs.declared.kind.DigestKind.TheVariants.{First, Certified}
-use Rattle.nw_digest.specs.Order.{digest_cmp, Slot, slot_cmp}
+use Rattle.nw_digest.specs.Order.{slot_cmp}
+use Rattle.nw_digest.proofs.Maps.{slots_total, slots_apart}
 use Rattle.nw_rounds.specs.Places.{Place, place_cmp, kind_cmp}
-
-pub digests_total : IsTotalOrder digest_cmp
-digests_total = on_total (λ d. d.0) nat_list_cmp_total
-
-pub slots_total : IsTotalOrder slot_cmp
-slots_total = then_total (on_total (λ (s : Slot). s.0) nat_cmp_total) (on_total (λ (s : Slot). s.1) nat_cmp_total)
-
-pub digests_apart : IsAntisymmetric digest_cmp
-digests_apart a b e = let bytes : a.0 ≡ b.0 = exact_bytes a.0 b.0 e in ap (λ (xs : List ℕ). let d : Digest = record { 0 = xs } in d) bytes
-
-pub slots_apart : IsAntisymmetric slot_cmp
-slots_apart = exact_pairs nat_cmp nat_cmp exact_unsigned exact_unsigned
 
 kinds_apart : IsAntisymmetric kind_cmp
 kinds_apart First First e = refl

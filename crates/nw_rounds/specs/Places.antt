@@ -1,8 +1,9 @@
 -- The digests of both kinds in one map.
-use Rattle.std.specs.Prelude.{◌≡◌, ◌↔◌, ℕ, ◌<◌, ◌≤◌, List, [], ◌∷◌, Bool, true, false, Some, Contains, if◌then◌else◌}
+use Rattle.std.specs.Prelude.{◌≡◌, ◌==◌, ◌↔◌, ℕ, ◌-◌, ◌<◌, ◌≤◌, List, [], ◌∷◌, ◌++◌, length, slice_get, Bool, true, false, Some, Contains, if◌then◌else◌}
 use Rattle.std.specs.declared.cmp.Ordering.{Ordering}
 use Rattle.std.specs.Ordering.{eq_by_cmp, ordering_then}
 use Rattle.std.specs.List.{IsDistinct}
+use Rattle.std.specs.Option.{option_map_or}
 use Rattle.std.specs.Map.{keys_of}
 use Rattle.std.specs.FinMap.{FinMap, from_entries, get}
 use Rattle.nw_digest.specs.declared.digest.Digest.{Digest}
@@ -51,6 +52,10 @@ pub record ArePlacesBetween (t : Tables) (from to : ℕ) (places : List (Place �
   pub exactly : (p : Place) (d : Digest) → Contains places (p, d) ↔ ((from ≤ p.0.0) × (p.0.0 < to) × (get (map_of t p.1) p.0 ≡ Some d))
   -- each place once
   pub once : IsDistinct (eq_by_cmp place_cmp) (keys_of places)
+
+-- the authors, with this one at the end, unless it is the last one already
+abbrev pub with_author : List ℕ → ℕ → List ℕ
+with_author authors author = if option_map_or (λ last. author == last) (slice_get authors (length authors - 1)) false then authors else authors ++ author ∷ []
 
 -- the first entry belongs to a lower round
 abbrev pub BeginsBelow : ℕ → List (Place × Digest) → Type 0

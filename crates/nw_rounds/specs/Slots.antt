@@ -29,14 +29,14 @@ HasDigest t slot = IsSome (get t.firsts slot) ⊎ IsSome (get t.certified slot)
 
 -- the list of the authors with a first or a certified digest in the round
 pub record AreAuthorsAt (t : Tables) (round : ℕ) (authors : List ℕ) : Type 0 where
-  -- an author is listed exactly if it has one
+  -- an author is listed exactly when it has one
   pub exactly : (author : ℕ) → Contains authors author ↔ HasDigest t (round, author)
   -- ascending, each once
   pub ascending : IsStrictlySortedBy nat_cmp authors
 
 -- the list of the digests of the rounds from..to
 pub record AreDigestsBetween (t : Tables) (from to : ℕ) (digests : List Digest) : Type 0 where
-  -- a digest is listed exactly if it is one of these
+  -- a digest is listed exactly when it is one of these
   pub exactly : (d : Digest) → Contains digests d ↔ ((round : ℕ) × (from ≤ round) × (round < to) × IsDigestAt t round d)
   -- ascending, each once
   pub ascending : IsStrictlySortedBy digest_cmp digests

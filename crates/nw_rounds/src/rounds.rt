@@ -2,10 +2,12 @@
 ghost use Rattle.std.specs.Prelude.{◌≡◌, ◌+◌, ◌<◌, ◌≤◌, ◌^◌};
 ghost use Rattle.std.specs.Prelude.{All, IfOk, OnOk, OnErr, IsNone, nat_le, length};
 ghost use Rattle.std.specs.Bool.{MatchBool};
+ghost use Rattle.std.specs.List.Sorted.{IsStrictlySortedBy};
+ghost use Rattle.std.specs.Map.{keys_of};
 ghost use Rattle.std.specs.BTreeMap.{keys, values};
 ghost use Rattle.std.specs.FinMap as map;
 ghost use Rattle.nw_rounds.specs.Slots.{AreAuthorsAt, AreDigestsBetween, HasAllDigests, no_digests};
-ghost use Rattle.nw_rounds.specs.Places.{ArePlacesBetween, BeginsBelow, tables_of};
+ghost use Rattle.nw_rounds.specs.Places.{ArePlacesBetween, BeginsBelow, place_cmp, tables_of, with_author};
 
 use crate::kind::DigestKind;
 use nw_digest::{Digest, NoMemory, Round};
@@ -111,8 +113,7 @@ impl<A: Allocator> Rounds<A> {
     pub fn authors(&self, alloc: Global, round: Round) -> Result<Vec<u16>, NoMemory>
         ensures { IfOk result (λ list. AreAuthorsAt self.now round list.items) }
     {
-        let found = authors_at(alloc, &self.digests, round.get())?;
-        Ok(found.into_iter().collect(alloc)?)
+        authors_at(alloc, &self.digests, round.get())
     }
 
     /// All digests of this round and of lower ones, ascending and each once. `NoMemory` if an allocation fails. The cost
@@ -168,15 +169,25 @@ fn authors_at<A: Allocator>(
     alloc: Global,
     digests: &BTreeMap<Place, Digest, A>,
     round: u64,
-) -> Result<BTreeSet<u16>, NoMemory>
+) -> Result<Vec<u16>, NoMemory>
     requires { round < 2 ^ 48 }
-    ensures { IfOk result (λ found. AreAuthorsAt (tables_of digests.now.entries) round found.keys) }
+    ensures { IfOk result (λ found. AreAuthorsAt (tables_of digests.now.entries) round found.items) }
 {
-    let mut found = BTreeSet::new(alloc);
+    let mut found = Vec::new(alloc);
     for (place, _digest) in places_between(digests, round, round + 1) {
-        found.insert(place.0.1)?;
+        add_author(&mut found, place.0.1)?;
     }
     Ok(found)
+}
+
+/// Adds the author at the end of the list, unless it is the last one already. `NoMemory` if an allocation fails.
+fn add_author(authors: &mut Vec<u16>, author: u16) -> Result<(), NoMemory>
+    ensures { OnOk result (authors.new.items ≡ with_author authors.old.items author) }
+{
+    match authors.last() {
+        Some(last) if author == *last => Ok(()),
+        _ => Ok(authors.push(author)?),
+    }
 }
 
 /// All digests of the rounds `from..to`. `NoMemory` if an allocation fails.
@@ -205,6 +216,7 @@ fn places_between<A: Allocator>(
 ) -> Range<'_, Place, Digest>
     requires { from ≤ to }
     ensures places { ArePlacesBetween (tables_of digests.now.entries) from to result }
+    ensures ascending { IsStrictlySortedBy place_cmp (keys_of result) }
     ensures fits { length result < 2 ^ 63 }
 {
     digests.range(((from, 0), DigestKind::First)..((to, 0), DigestKind::First))

@@ -1,5 +1,5 @@
 -- Lists of chunks.
-use Rattle.std.proofs.Common.{◌≡◌, ℕ, suc, ◌+◌, ◌-◌, ◌*◌, ◌/◌, ◌%◌, ◌^◌, ◌<◌, ◌≤◌, List, [], ◌∷◌, ◌++◌, Some, length, take, get_or, refl, ap, sym, ◌∙◌, arith, length-append, length-take}
+use Rattle.std.proofs.Common.{◌≡◌, ℕ, ◌+◌, ◌-◌, ◌*◌, ◌/◌, ◌%◌, ◌^◌, ◌<◌, ◌≤◌, List, [], ◌∷◌, ◌++◌, Some, length, take, get_or, refl, ap, sym, ◌∙◌, arith, length-append, length-take}
 use Rattle.std.specs.Prelude.{slice_get, reverse, All}
 use Rattle.std.specs.List.{flat_map}
 use Rattle.std.proofs.lemmas.List.{length-reverse, get_or-reverse, get_or-append-add, get_or_append_left}
@@ -66,21 +66,6 @@ get_in_tail head chunks (b ∷ bs) i place h is below =
     ∙ ap (λ n. Some (get_or tail n b)) (omega arith)
     ∙ ap Some (sym (there ∙ here))
     ∙ sym (slice_get-get_or (items_of (chunked head chunks tail)) i b inside)
-
-slice_get-append-add : {T : Type 0} → (xs ys : List T) (k : ℕ) → slice_get (xs ++ ys) (length xs + k) ≡ slice_get ys k
-slice_get-append-add {T} [] ys k = let same : length {A = T} [] + k ≡ k = omega arith in ap (slice_get ys) same
-slice_get-append-add (x ∷ xs) ys k =
-    let same : length (x ∷ xs) + k ≡ suc (length xs + k) = omega arith in
-    ap (slice_get (x ∷ (xs ++ ys))) same ∙ one_less x (xs ++ ys) (length xs + k) ∙ slice_get-append-add xs ys k
-  where
-    one_less : {X : Type 0} (z : X) (zs : List X) (n : ℕ) → slice_get (z ∷ zs) (suc n) ≡ slice_get zs n
-    one_less z zs n = refl
-
--- an item of the tail, found in the tail
-pub get_by_tail : {H T : Type 0} (c : Chunked H T) (i place : ℕ) → All IsWhole c.chunks → i ≡ 256 * length c.chunks + place → slice_get c.tail place ≡ slice_get (items_of c) i
-get_by_tail c i place h is =
-    let all : length (flat_map (λ y. y) c.chunks) ≡ 256 * length c.chunks = chunks_length c.chunks h in
-    sym (slice_get-append-add (flat_map (λ y. y) c.chunks) c.tail place) ∙ (let at : length (flat_map (λ y. y) c.chunks) + place ≡ i = omega (arith, all, is) in ap (slice_get (items_of c)) at)
 
 -- the number of items. Reversing the tail does not change it
 pub items_count : {H T : Type 0} (head : H) (chunks : List (List T)) (tail : List T) → AreChunked (chunked head chunks tail) → 256 * length chunks + length tail ≡ length (items_of (chunked head chunks tail))

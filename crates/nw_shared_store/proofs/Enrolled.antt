@@ -7,11 +7,11 @@ use Rattle.atomic_table.specs.Table.{Me}
 use Rattle.nw_sig.specs.Signed.{Meaning}
 use Rattle.nw_model.specs.declared.event.Event.{Event}
 use Rattle.nw_shared_store.specs.Held.{Current, IsEnrolled}
-use Rattle.nw_shared_store.specs.Rule.{Known, HasLock, HasValue, IsSeatAt, Knows, hearer, holder_of, newcomer}
+use Rattle.nw_shared_store.specs.Rule.{SeatView, HasLock, HasValue, IsSeatAt, Knows, hearer, holder_of, newcomer}
 use Rattle.nw_shared_store.specs.Session.{IsSessionAt, IsSessionOf, StoreId}
-use Rattle.nw_shared_store.proofs.Answered.{of_value, view_at}
+use Rattle.nw_shared_store.proofs.Seated.{of_value, view_at}
 
-module _ (accepts : Meaning) (store : StoreId) (run id : ℕ) (m0 m1 m2 : Me Current Known) (start : m0 ≡ (hearer store.first, [])) (lock : HasLock m0.0 m1 (λ now. Knows now m0.0)) (view : m2.0 ≡ m1.0)
+module _ (accepts : Meaning) (store : StoreId) (run id : ℕ) (m0 m1 m2 : Me Current SeatView) (start : m0 ≡ (hearer store.first, [])) (lock : HasLock m0.0 m1 (λ now. Knows now m0.0)) (view : m2.0 ≡ m1.0)
     (enrolled : HasValue m1 (λ g. HasValue m2 (λ n. IsEnrolled accepts g n run id))) where
   abbrev now : Current
   now = lock.0
@@ -20,7 +20,7 @@ module _ (accepts : Meaning) (store : StoreId) (run id : ℕ) (m0 m1 m2 : Me Cur
   new = of_value m0.0 m1 lock enrolled
 
   view_is : m2.0 ≡ holder_of now (hearer store.first)
-  view_is = view ∙ (ap (λ (m : Me Current Known). m.0) lock.1 ∙ ap (λ (m : Me Current Known). holder_of now m.0) start)
+  view_is = view ∙ (ap (λ (m : Me Current SeatView). m.0) lock.1 ∙ ap (λ (m : Me Current SeatView). holder_of now m.0) start)
 
   pub may_enrol : (g : Current) × (m2 ≡ (holder_of g (hearer store.first), (0, record { run = g.run; history = g.history; made = g.made + 1 }) ∷ [])) × All (λ (e : Event). e.session < g.made) g.history.events
   may_enrol = (
@@ -29,12 +29,12 @@ module _ (accepts : Meaning) (store : StoreId) (run id : ℕ) (m0 m1 m2 : Me Cur
     new.2.held.below,
   )
 
-  module _ (m3 : Me Current Known) (ended : (g : Current) → m2.0.holds ≡ Some g → m3 ≡ (newcomer g g.made, [])) where
+  module _ (m3 : Me Current SeatView) (ended : (g : Current) → m2.0.holds ≡ Some g → m3 ≡ (newcomer g g.made, [])) where
     made : m3 ≡ (newcomer now now.made, [])
-    made = ended now (ap (λ (v : Known). v.holds) view_is)
+    made = ended now (ap (λ (v : SeatView). v.holds) view_is)
 
     pub session_made : (seat other : TableId) → IsSeatAt store.lock seat → other ≡ seat → IsSessionAt store.lock run id other m3
-    session_made seat other at same = subst (λ (x : TableId × Me Current Known). IsSessionAt store.lock run id x.0 x.1) (λ i. (sym same i, sym made i)) (record {
+    session_made seat other at same = subst (λ (x : TableId × Me Current SeatView). IsSessionAt store.lock run id x.0 x.1) (λ i. (sym same i, sym made i)) (record {
       at = at;
       member_is = refl;
       id_is = sym new.2.id_is;
@@ -43,10 +43,10 @@ module _ (accepts : Meaning) (store : StoreId) (run id : ℕ) (m0 m1 m2 : Me Cur
     })
 
     knows : Knows now (hearer store.first)
-    knows = subst (λ (m : Me Current Known). Knows now m.0) start lock.2
+    knows = subst (λ (m : Me Current SeatView). Knows now m.0) start lock.2
 
     pub of_store : IsSessionOf store (view_at store.lock m3)
-    of_store = subst (λ (m : Me Current Known). IsSessionOf store (view_at store.lock m)) (sym made) (record {
+    of_store = subst (λ (m : Me Current SeatView). IsSessionOf store (view_at store.lock m)) (sym made) (record {
       lock = refl;
       committee = sym knows.committee;
       limits = sym knows.limits;

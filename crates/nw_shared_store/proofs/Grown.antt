@@ -7,7 +7,7 @@ use Rattle.nw_model.specs.declared.event.Event.{Event}
 use Rattle.nw_model.specs.History.{events_of}
 use Rattle.nw_history.specs.Story.{Story, with_event}
 use Rattle.nw_history.specs.Prefix.{IsPrefixOf}
-use Rattle.nw_book.specs.Answer.{DoneView}
+use Rattle.nw_book.specs.Answer.{AnswerView}
 use Rattle.nw_book.specs.Journal.{Journal, ArePrefixesOf}
 use Rattle.nw_book.specs.Settled.{IsJournalOf, events_in}
 use Rattle.nw_book.proofs.Longer.{events_of_last}
@@ -25,7 +25,7 @@ none_of id (e ∷ es) below =
     let first : e.session < id = below 0 e (omega arith) in
     ap (λ (b : Bool). cond b (e ∷ events_of id es) (events_of id es)) (ne_eqb e.session id (λ is. omega arith)) ∙ none_of id es (λ k d lt. below (suc k) d (omega (arith, lt)))
 
-events_in_last : (answers : List DoneView) (a : DoneView) → events_in (answers ++ a ∷ []) ≡ events_in answers ++ a.event ∷ []
+events_in_last : (answers : List AnswerView) (a : AnswerView) → events_in (answers ++ a ∷ []) ≡ events_in answers ++ a.event ∷ []
 events_in_last [] a = refl
 events_in_last (x ∷ answers) a = ap (λ l. x.event ∷ l) (events_in_last answers a)
 
@@ -34,18 +34,18 @@ pub answered_one : (h : Story) (e : Event) (j : Journal) → answered h (with_ev
     ≡ record { id = j.id; answers = j.answers ++ record { event = e; front = with_event h e } ∷ []; known = j.known ++ with_event h e ∷ [] }
 answered_one h e j = ap (λ (new : List Event). record { id = j.id; answers = j.answers ++ map (λ (x : Event). record { event = x; front = with_event h e }) new; known = j.known ++ with_event h e ∷ [] }) (drop_begun h.events (e ∷ []))
 
-begun_next : (h : Story) (e : Event) (answers : List DoneView) → ArePrefixesOf h answers → ArePrefixesOf (with_event h e) answers
-begun_next h e answers = All-weaker (λ (a : DoneView). IsPrefixOf a.front h) (λ (a : DoneView). IsPrefixOf a.front (with_event h e)) (λ a p. prefix_trans a.front h (with_event h e) p (prefix_next h (with_event h e) e refl)) answers
+begun_next : (h : Story) (e : Event) (answers : List AnswerView) → ArePrefixesOf h answers → ArePrefixesOf (with_event h e) answers
+begun_next h e answers = All-weaker (λ (a : AnswerView). IsPrefixOf a.front h) (λ (a : AnswerView). IsPrefixOf a.front (with_event h e)) (λ a p. prefix_trans a.front h (with_event h e) p (prefix_next h (with_event h e) e refl)) answers
 
 -- an event of the journal's own session, which is answered
 pub part_own : (h : Story) (e : Event) (j : Journal) → e.session ≡ j.id → IsJournalOf h j.id j → IsJournalOf (with_event h e) j.id (answered h (with_event h e) j)
 part_own h e j own part =
     let next = with_event h e in
-    let a : DoneView = record { event = e; front = next } in
+    let a : AnswerView = record { event = e; front = next } in
     subst (IsJournalOf next j.id) (sym (answered_one h e j)) (record {
       id_is = refl;
       events = events_of_last j.id h.events e ∙ (ap (λ (b : Bool). events_of j.id h.events ++ cond b (e ∷ []) []) (eq-eqb e.session j.id own) ∙ (ap (λ l. l ++ e ∷ []) part.events ∙ sym (events_in_last j.answers a)));
-      begun = All-push (λ (x : DoneView). IsPrefixOf x.front next) j.answers a (begun_next h e j.answers part.begun) (prefix_itself next);
+      begun = All-push (λ (x : AnswerView). IsPrefixOf x.front next) j.answers a (begun_next h e j.answers part.begun) (prefix_itself next);
     })
 
 -- an event of another session

@@ -1,7 +1,11 @@
 pub mod Grown
-pub mod Steps
 pub mod Slots
+pub mod Fitting
+pub mod Steps
+pub mod Joined
+pub mod Seated
 pub mod Answered
+pub mod Renewed
 pub mod Enrolled
 pub mod Parts
 pub mod Stepped

@@ -2,26 +2,19 @@
 use Rattle.std.proofs.Common.{◌≡◌, ℕ, zero, suc, ◌+◌, ◌<◌, List, [], ◌∷◌, Some, length, map, refl, sym, ◌∙◌, subst, arith}
 use Rattle.std.specs.Prelude.{All, slice_get}
 use Rattle.std.proofs.lemmas.List.Elements.{All-nil, All-cons}
-use mathlib.Core.List.{IsPrefix}
 use Rattle.nw_sig.specs.Signed.{Meaning}
 use Rattle.nw_model.specs.declared.event.Event.{Event}
 use Rattle.nw_history.specs.Story.{Story}
 use Rattle.nw_history.specs.Prefix.{IsPrefixOf}
 use Rattle.nw_book.specs.Journal.{Journal, IsHistoryOf, origin_of}
 use Rattle.nw_book.specs.Settled.{AreSettled, IsJournalOf}
+use Rattle.nw_book.proofs.Prefixes.{prefix_whole}
 use Rattle.nw_shared_store.specs.Rule.{knowing}
 use Rattle.nw_shared_store.specs.Session.{IsPresent, IsSameSession, SessionView}
 use Rattle.nw_shared_store.specs.Settlement.{AreParts, IsPart}
 
--- a prefix that is as long is the whole
-prefix_whole : (xs ys : List Event) → IsPrefix xs ys → length xs ≡ length ys → xs ≡ ys
-prefix_whole [] [] p le = refl
-prefix_whole [] (y ∷ ys) p le = absurd (omega arith)
-prefix_whole (x ∷ xs) [] p le = absurd (cc (p.1))
-prefix_whole (x ∷ xs) (y ∷ ys) p le = let rest = prefix_whole xs ys (p.0, cc (p.1)) (omega arith) in cc (p.1, rest)
-
 pub same_story : (s t : Story) → IsPrefixOf s t → length s.events ≡ length t.events → s ≡ t
-same_story s t p same = λ i. record { committee = p.committee i; limits = p.limits i; base = p.base i; events = prefix_whole s.events t.events p.events same i }
+same_story s t p same = λ i. record { committee = p.committee i; limits = p.limits i; base = p.base i; events = prefix_whole s.events t.events p.events (omega (arith, same)) i }
 
 pub part : (accepts : Meaning) (id : ℕ) (h now : Story) (made : ℕ) (old new : SessionView) → IsPresent accepts (origin_of old.first) old.journal now made
     → new.journal ≡ knowing old.journal now → IsSameSession old new → old.journal.id ≡ id → now ≡ h → IsPart accepts id h new

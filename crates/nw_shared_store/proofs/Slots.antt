@@ -4,13 +4,25 @@ use Rattle.std.specs.Prelude.{IfSome}
 use Rattle.std.specs.Result.{IfOk, IfErr}
 use Rattle.atomic_table.specs.Table.{Me, rest}
 use Rattle.nw_shared_store.specs.Held.{Current}
-use Rattle.nw_shared_store.specs.Rule.{Known, HasValue}
+use Rattle.nw_shared_store.specs.Rule.{SeatView, HasValue}
+
+-- the value alone in the slot
+abbrev pub out_at : Current → List (ℕ × Current)
+out_at d = (0, d) ∷ []
+
+abbrev pub second_of : List (ℕ × Current) → Current → Current
+second_of [] g = g
+second_of (x ∷ xs) g = x.1
+
+-- the values in one slot are the same
+pub one_value : (m : Me Current SeatView) (g n : Current) → m.1 ≡ (0, g) ∷ [] → m.1 ≡ (0, n) ∷ [] → g ≡ n
+one_value m g n is also = ap (λ (l : List (ℕ × Current)). second_of l g) (sym is ∙ also)
 
 -- the seat's slot, as `slot_mut` speaks of it
-pub slot_of : (me : Me Current Known) (g : Current) → me.1 ≡ (0, g) ∷ [] → me.1 ≡ (0, g) ∷ rest me.1
+pub slot_of : (me : Me Current SeatView) (g : Current) → me.1 ≡ (0, g) ∷ [] → me.1 ≡ (0, g) ∷ rest me.1
 slot_of me g is = is ∙ ap (λ (l : List (ℕ × Current)). (0, g) ∷ rest l) (sym is)
 
-module _ (me : Me Current Known) (x g : Current) (lent : me.1 ≡ (0, x) ∷ rest me.1) (is : me.1 ≡ (0, g) ∷ []) where
+module _ (me : Me Current SeatView) (x g : Current) (lent : me.1 ≡ (0, x) ∷ rest me.1) (is : me.1 ≡ (0, g) ∷ []) where
   pub value_is : me.1 ≡ (0, x) ∷ []
   value_is = lent ∙ ap (λ (l : List (ℕ × Current)). (0, x) ∷ rest l) is
 

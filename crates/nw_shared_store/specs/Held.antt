@@ -2,13 +2,10 @@
 use Rattle.std.specs.Prelude.{◌≡◌, ◌≢◌, ℕ, ◌+◌, ◌<◌, ◌≤◌, List, Option, All}
 use Rattle.nw_committee.specs.declared.member.Member.{Member}
 use Rattle.nw_sig.specs.Signed.{Meaning}
-use Rattle.nw_digest.specs.Order.{Slot}
-use Rattle.nw_model.specs.Look.{IsLook, TellsSatisfied}
 use Rattle.nw_model.specs.declared.call.Call.{Call}
-use Rattle.nw_model.specs.declared.look.Look.{Look}
 use Rattle.nw_model.specs.declared.reply.Reply.{Reply}
 use Rattle.nw_history.specs.Limits.{AreInRange}
-use Rattle.nw_history.specs.Story.{Story, IsLegalStory, reopened, state_of}
+use Rattle.nw_history.specs.Story.{Story, IsLegalStory, reopened}
 use Rattle.nw_book.specs.Answer.{Takes}
 use Rattle.nw_book.specs.Turn.{IsRefusal, MatchesCommittee, next_number}
 use Rattle.nw_book.specs.declared.error.NoStep.{NoStep}
@@ -81,7 +78,3 @@ pub record IsEnded (accepts : Meaning) (g n : Current) (last : Story) (run : ℕ
   pub run_is : run ≡ n.run
   -- the value was in order
   pub held : IsHeld accepts g
-
--- the look has what the state after the history has in the slot, and tells which references of the next round are satisfied
-abbrev pub IsLookAfter : Story → Slot → Look → Type 0
-IsLookAfter h slot look = IsLook (state_of h) slot look × TellsSatisfied (state_of h) slot look

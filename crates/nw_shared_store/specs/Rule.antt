@@ -17,39 +17,39 @@ use Rattle.nw_shared_store.specs.Held.{Current, next_run}
 use Rattle.nw_shared_store.specs.declared.knowledge.Knowledge.{Knowledge}
 
 -- what a seat knows, as contracts see it
-abbrev pub Known : Type 0
-Known = Knowledge Current Story Journal
+abbrev pub SeatView : Type 0
+SeatView = Knowledge Current Story Journal
 
 -- a journal without answers, of a session that knows of these histories
 abbrev pub new_journal : ℕ → List Story → Journal
 new_journal id known = record { id = id; answers = []; known = known }
 
 -- a seat that has neither the lock nor a session, and knows of the first history of the store
-abbrev pub hearer : Story → Known
+abbrev pub hearer : Story → SeatView
 hearer first = record { holds = None; acts = false; run = 0; first = first; journal = new_journal 0 (first ∷ []) }
 
 -- the seat of the session with this journal, without the lock. The session is of this run, and knew of this history when it came to it
-abbrev pub member : ℕ → Story → Journal → Known
+abbrev pub member : ℕ → Story → Journal → SeatView
 member run first j = record { holds = None; acts = true; run = run; first = first; journal = j }
 
 -- the seat, once it has the lock and with it this value
-abbrev pub holder_of : Current → Known → Known
+abbrev pub holder_of : Current → SeatView → SeatView
 holder_of now v = record { holds = Some now; acts = v.acts; run = v.run; first = v.first; journal = v.journal }
 
 -- the seat without the lock, with this journal
-abbrev pub with_journal : Known → Journal → Known
+abbrev pub with_journal : SeatView → Journal → SeatView
 with_journal v j = record { holds = None; acts = v.acts; run = v.run; first = v.first; journal = j }
 
 -- the seat without the lock
-abbrev pub freed : Known → Known
+abbrev pub freed : SeatView → SeatView
 freed v = with_journal v v.journal
 
 -- the seat of a session that comes to the run of this value
-abbrev pub newcomer : Current → ℕ → Known
+abbrev pub newcomer : Current → ℕ → SeatView
 newcomer now id = member now.run now.history (new_journal id (now.history ∷ []))
 
 -- what a seat knows is true of the value under the lock
-pub record Knows (now : Current) (v : Known) : Type 0 where
+pub record Knows (now : Current) (v : SeatView) : Type 0 where
   -- the seat is of this run, or of an ended one
   pub run : v.run ≤ now.run
   -- the store has one committee
@@ -66,12 +66,12 @@ pub record Knows (now : Current) (v : Known) : Type 0 where
   pub ended : v.acts ≡ true → (v.run ≡ now.run → ⊥) → events_of v.journal.id now.history.events ≡ []
 
 -- what a seat knows is of the run of the value under the lock, and true
-pub record KnowsRun (now : Current) (v : Known) : Type 0 where
+pub record KnowsRun (now : Current) (v : SeatView) : Type 0 where
   pub same : v.run ≡ now.run
   pub knows : Knows now v
 
 -- the view v of the seat `by` fits the value under the lock; `owner` says which seat has which session, and `holder` which one has the lock
-pub record Fits (owner : ℕ → ℕ) (holder : ℕ) (now : Current) (by : ℕ) (v : Known) : Type 0 where
+pub record FitsValue (owner : ℕ → ℕ) (holder : ℕ) (now : Current) (by : ℕ) (v : SeatView) : Type 0 where
   -- only the holder has the lock, and it knows the value
   pub holds : (g : Current) → v.holds ≡ Some g → (by ≡ holder) × (g ≡ now)
   -- no other seat has its session
@@ -79,15 +79,15 @@ pub record Fits (owner : ℕ → ℕ) (holder : ℕ) (now : Current) (by : ℕ) 
   -- what it knows is true
   pub knows : Knows now v
 
-abbrev pub AllFit : (ℕ → ℕ) → ℕ → Current → List Known → Type 0
-AllFit owner holder now views = (by : ℕ) (v : Known) → get_elem? views by ≡ some v → Fits owner holder now by v
+abbrev pub AllFit : (ℕ → ℕ) → ℕ → Current → List SeatView → Type 0
+AllFit owner holder now views = (by : ℕ) (v : SeatView) → get_elem? views by ≡ some v → FitsValue owner holder now by v
 
 -- no seat has the lock
-abbrev pub NoneHolds : List Known → Type 0
-NoneHolds views = (by : ℕ) (v : Known) → get_elem? views by ≡ some v → v.holds ≡ None
+abbrev pub NoneHolds : List SeatView → Type 0
+NoneHolds views = (by : ℕ) (v : SeatView) → get_elem? views by ≡ some v → v.holds ≡ None
 
 -- the lock is free and the value at home, or the lock is taken and the value out
-abbrev pub IsAt : Current → State Current Known → Type 0
+abbrev pub IsAt : Current → State Current SeatView → Type 0
 IsAt now s =
     ((s.words ≡ 0 ∷ []) × (s.homes ≡ some now ∷ []) × NoneHolds s.views)
     ⊎ ((n : ℕ) × (s.words ≡ suc n ∷ []) × (s.homes ≡ none ∷ []))
@@ -100,7 +100,7 @@ pub record IsValueOf (first : Story) (now : Current) : Type 0 where
   pub begins : now.run ≡ 0 → IsPrefixOf first now.history
 
 -- there is one value under the lock, with one history, and the views of all seats fit it
-abbrev pub IsOneHistory : Story → State Current Known → Type 0
+abbrev pub IsOneHistory : Story → State Current SeatView → Type 0
 IsOneHistory first s =
     (owner : ℕ → ℕ) × (holder : ℕ) × (now : Current) × IsValueOf first now × IsAt now s × AllFit owner holder now s.views
 
@@ -117,38 +117,39 @@ abbrev pub knowing : Journal → Story → Journal
 knowing j h = record { id = j.id; answers = j.answers; known = j.known ++ h ∷ [] }
 
 -- a new seat knows of the first history
-abbrev pub Comes : Step Current → Me Current Known → ℕ → Me Current Known → Type 0
+abbrev pub Comes : Step Current → Me Current SeatView → ℕ → Me Current SeatView → Type 0
 Comes s me found after = after ≡ me
 
 -- if the lock was free, the seat has it now, with the value, and all that it knew is true of this value; otherwise nothing changed
-abbrev pub Acquires : Step Current → Me Current Known → ℕ → Me Current Known → Type 0
+abbrev pub Acquires : Step Current → Me Current SeatView → ℕ → Me Current SeatView → Type 0
 Acquires s me found after =
     (found ≡ 0 → (now : Current) × (after ≡ (holder_of now me.0, (0, now) ∷ me.1)) × Knows now me.0)
     × ((found ≡ 0 → ⊥) → after ≡ me)
 
 -- the seat gives the value back as it was
-abbrev pub Returns : Step Current → Me Current Known → ℕ → Me Current Known → Type 0
+abbrev pub Returns : Step Current → Me Current SeatView → ℕ → Me Current SeatView → Type 0
 Returns s me found after = after ≡ (freed me.0, [])
 
 -- the seat gives the value back after a call of its session
-abbrev pub Releases : Step Current → Me Current Known → ℕ → Me Current Known → Type 0
+abbrev pub Releases : Step Current → Me Current SeatView → ℕ → Me Current SeatView → Type 0
 Releases s me found after =
     (before called : Current) → me.0.holds ≡ Some before → me.1 ≡ (0, called) ∷ []
     → after ≡ (with_journal me.0 (answered before.history called.history me.0.journal), [])
 
 -- the seat gives the value back with one more session, which it now has
-abbrev pub Enrols : Step Current → Me Current Known → ℕ → Me Current Known → Type 0
+abbrev pub Enrols : Step Current → Me Current SeatView → ℕ → Me Current SeatView → Type 0
 Enrols s me found after = (before : Current) → me.0.holds ≡ Some before → after ≡ (newcomer before before.made, [])
 
--- the seat gives the value back as it was, and now knows of its history
-abbrev pub looked : Story → Known → Known
-looked h v = with_journal v (knowing v.journal h)
+-- the seat without the lock, which also knows of this history
+abbrev pub reader_of : Story → SeatView → SeatView
+reader_of h v = with_journal v (knowing v.journal h)
 
-abbrev pub Looks : Step Current → Me Current Known → ℕ → Me Current Known → Type 0
-Looks s me found after = (now : Current) → me.0.holds ≡ Some now → after ≡ (looked now.history me.0, [])
+-- the seat gives the value back as it was, and now knows of its history
+abbrev pub Reads : Step Current → Me Current SeatView → ℕ → Me Current SeatView → Type 0
+Reads s me found after = (now : Current) → me.0.holds ≡ Some now → after ≡ (reader_of now.history me.0, [])
 
 -- the seat gives the value back, as it was or with the next run, and its session comes to the run of the value
-abbrev pub Joins : Step Current → Me Current Known → ℕ → Me Current Known → Type 0
+abbrev pub Joins : Step Current → Me Current SeatView → ℕ → Me Current SeatView → Type 0
 Joins s me found after = (given : Current) → me.1 ≡ (0, given) ∷ [] → after ≡ (newcomer given me.0.journal.id, [])
 
 -- a seat with the value g may come to the run of the value d: it is another run than the seat's, or the next one
@@ -162,9 +163,9 @@ pub record IsSeatAt (lock seat : TableId) : Type 0 where
   pub slots : lock.slots ≡ 1
 
 -- the seat has the value, and this is true of it
-abbrev pub HasValue : Me Current Known → (Current → Type 0) → Type 0
+abbrev pub HasValue : Me Current SeatView → (Current → Type 0) → Type 0
 HasValue me then = (g : Current) × (me.1 ≡ (0, g) ∷ []) × then g
 
 -- the seat has the lock, with a value of which this is true
-abbrev pub HasLock : Known → Me Current Known → (Current → Type 0) → Type 0
+abbrev pub HasLock : SeatView → Me Current SeatView → (Current → Type 0) → Type 0
 HasLock v me then = (now : Current) × (me ≡ (holder_of now v, (0, now) ∷ [])) × then now

@@ -12,7 +12,7 @@ use Rattle.nw_book.specs.Settled.{IsJournalOf}
 use Rattle.nw_history.specs.Prefix.{IsPrefixOf}
 use Rattle.nw_book.specs.declared.error.NoStep.TheVariants as causes
 use Rattle.nw_shared_store.specs.Held.{Current}
-use Rattle.nw_shared_store.specs.Rule.{Known, IsSeatAt, knowing, member, new_journal}
+use Rattle.nw_shared_store.specs.Rule.{SeatView, IsSeatAt, knowing, member, new_journal}
 use Rattle.nw_shared_store.specs.declared.error.Refusal.{Refusal}
 use Rattle.nw_shared_store.specs.declared.error.Refusal.TheVariants as refusals
 
@@ -68,7 +68,7 @@ IsRefused accepts origin old under refusals.TooMany = ⊥
 IsRefused accepts origin old under (refusals.NoStep why) = (why ≡ causes.OutOfTurn → ⊥) × TakesNoStep accepts origin old under why
 
 -- the seat of the session with this number in this run: `me` is its view and its slots
-pub record IsSessionAt (lock : TableId) (run id : ℕ) (seat : TableId) (me : Me Current Known) : Type 0 where
+pub record IsSessionAt (lock : TableId) (run id : ℕ) (seat : TableId) (me : Me Current SeatView) : Type 0 where
   -- the seat is one of the store's lock
   pub at : IsSeatAt lock seat
   -- it has a session and not the lock
@@ -91,15 +91,12 @@ IsPassing (refusals.NoStep why) = why ≡ causes.NoMemory
 abbrev pub IsUnavailable : Refusal → Type 0
 IsUnavailable refusals.Busy = Unit {0}
 IsUnavailable refusals.Ended = Unit {0}
-IsUnavailable refusals.TooMany = ⊥
-IsUnavailable (refusals.NoStep why) = ⊥
+IsUnavailable other = ⊥
 
 -- why a session does not see the history: the refusal may pass, or the session's run has ended
 abbrev pub IsUnseen : Refusal → Type 0
-IsUnseen refusals.Busy = Unit {0}
 IsUnseen refusals.Ended = Unit {0}
-IsUnseen refusals.TooMany = ⊥
-IsUnseen (refusals.NoStep why) = why ≡ causes.NoMemory
+IsUnseen other = IsPassing other
 
 -- the history is that of the session's run, in which the store has made this many sessions
 pub record IsPresent (accepts : Meaning) (origin : Origin) (j : Journal) (h : Story) (made : ℕ) : Type 0 where

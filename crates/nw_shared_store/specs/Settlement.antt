@@ -2,7 +2,7 @@
 use Rattle.std.specs.Prelude.{ℕ, ◌+◌, List, [], ◌∷◌}
 use Rattle.nw_sig.specs.Signed.{Meaning}
 use Rattle.nw_history.specs.Story.{Story}
-use Rattle.nw_book.specs.Answer.{DoneView}
+use Rattle.nw_book.specs.Answer.{AnswerView}
 use Rattle.nw_book.specs.Journal.{IsHistoryOf, origin_of}
 use Rattle.nw_book.specs.Settled.{IsJournalOf}
 use Rattle.atomic_table.specs.Seated.{TableId}
@@ -19,7 +19,7 @@ pub record Kept : Type 0 where
   -- its number
   pub id : ℕ
   -- its answers
-  pub answers : List DoneView
+  pub answers : List AnswerView
 
 abbrev pub kept : SessionView → Kept
 kept s = record { lock = s.lock; run = s.run; first = s.first; id = s.journal.id; answers = s.journal.answers }

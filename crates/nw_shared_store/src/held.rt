@@ -4,10 +4,11 @@ ghost use Rattle.nw_history.specs.Limits.{AreInRange};
 ghost use Rattle.nw_history.specs.Story.{IsLegalStory};
 ghost use Rattle.nw_model.specs.declared.call.Call.TheVariants as Call;
 ghost use Rattle.nw_book.specs.Answer.{IsTicketFor, front_of, reply_of};
+ghost use Rattle.nw_book.specs.Answered.{IsLookAfter};
 ghost use Rattle.nw_book.specs.Command.{call_of, committee_of};
 ghost use Rattle.nw_book.specs.Turn.{IsInTurn, next_number};
 ghost use Rattle.nw_history.specs.Story.{state_of};
-ghost use Rattle.nw_model.specs.Look.{AreLooks, IsLook, TellsSatisfied};
+ghost use Rattle.nw_model.specs.Look.{AreLooks};
 ghost use Rattle.nw_shared_store.specs.Held.{IsEnded, IsEnrolled, IsFound, IsHeld, IsTaken, IsUntaken};
 
 use nw_book::{Book, Command, Done, Front, NoStep, Ticket};
@@ -66,7 +67,7 @@ impl<S: Scheme> Held<S> {
     /// A clone of the history, and the number of sessions made so far.
     ///
     /// `NoMemory`: a reference count is at its limit.
-    pub(crate) fn look(&self) -> Result<(Front<S>, u16), NoMemory>
+    pub(crate) fn history(&self) -> Result<(Front<S>, u16), NoMemory>
         ensures { IfOk result (λ found. IsFound S.accepts self.now found.0 found.1) }
     {
         Ok((self.book.history().try_clone()?, self.made))
@@ -133,10 +134,9 @@ impl<S: Scheme> Held<S> {
     }
 
     /// What the state after the history has in the slot of this round and author.
-    pub(crate) fn look_at(&self, round: Round, author: u16) -> Look
+    pub(crate) fn look(&self, round: Round, author: u16) -> Look
         ensures held { IsHeld S.accepts self.now }
-        ensures look { IsLook (state_of self.now.history) (round, author) result }
-        ensures satisfied { TellsSatisfied (state_of self.now.history) (round, author) result }
+        ensures look { IsLookAfter self.now.history (round, author) result }
     {
         self.book.look(round, author)
     }

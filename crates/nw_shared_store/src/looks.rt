@@ -2,10 +2,10 @@
 ghost use Rattle.std.specs.Prelude.{◌≡◌, IfOk, IfErr, OnErr};
 ghost use Rattle.nw_history.specs.Story.{state_of};
 ghost use Rattle.nw_model.specs.Look.{AreLooks};
-ghost use Rattle.nw_shared_store.specs.Held.{IsLookAfter};
+ghost use Rattle.nw_book.specs.Answered.{IsLookAfter};
 ghost use Rattle.nw_shared_store.specs.Session.{HasSeen, IsSameSession, IsUnseen};
 
-use crate::lock::{end_look, give_back, take_in};
+use crate::lock::{end_reading, give_back, take_in};
 use crate::work::{look_at, look_round_at};
 use crate::{Refusal, SharedSession};
 use nw_book::{NoStep, Round};
@@ -25,9 +25,9 @@ impl<S: Scheme> SharedSession<S> {
         ensures same { IsSameSession self.old self.new }
         ensures unchanged { OnErr result (self.new ≡ self.old) }
     {
-        take_in(&self.lock, &mut self.pass, self.run)?;
-        let look = look_at(&self.lock, &mut self.pass, round, author);
-        end_look(&self.lock, &mut self.pass);
+        take_in(&self.lock, &mut self.seat, self.run)?;
+        let look = look_at(&self.lock, &mut self.seat, round, author);
+        end_reading(&self.lock, &mut self.seat);
         Ok(look)
     }
 
@@ -42,15 +42,15 @@ impl<S: Scheme> SharedSession<S> {
         ensures same { IsSameSession self.old self.new }
         ensures unchanged { OnErr result (self.new ≡ self.old) }
     {
-        take_in(&self.lock, &mut self.pass, self.run)?;
-        let looks = match look_round_at(&self.lock, &mut self.pass, alloc, round) {
+        take_in(&self.lock, &mut self.seat, self.run)?;
+        let looks = match look_round_at(&self.lock, &mut self.seat, alloc, round) {
             Ok(looks) => looks,
             Err(_) => {
-                give_back(&self.lock, &mut self.pass);
+                give_back(&self.lock, &mut self.seat);
                 return Err(Refusal::NoStep(NoStep::NoMemory));
             }
         };
-        end_look(&self.lock, &mut self.pass);
+        end_reading(&self.lock, &mut self.seat);
         Ok(looks)
     }
 }

@@ -2,7 +2,7 @@
 ghost use Rattle.std.specs.Prelude.{◌≡◌, IfOk, IfErr, OnOk, OnErr};
 ghost use Rattle.nw_shared_store.specs.Session.{IsPassing, IsRenewed, IsRestarted, IsUnseen};
 
-use crate::lock::{end_look, give_back, join, take_in, try_take};
+use crate::lock::{end_reading, give_back, join, take_in, try_take};
 use crate::work::{restart_at, run_at};
 use crate::{Refusal, SharedSession};
 use nw_book::{Front, NoStep};
@@ -26,15 +26,15 @@ impl<S: Scheme> SharedSession<S> {
         ensures refused { IfErr result IsUnseen }
         ensures unchanged { OnErr result (self.new ≡ self.old) }
     {
-        take_in(&self.lock, &mut self.pass, self.run)?;
-        let (last, next) = match restart_at(&self.lock, &mut self.pass, alloc) {
+        take_in(&self.lock, &mut self.seat, self.run)?;
+        let (last, next) = match restart_at(&self.lock, &mut self.seat, alloc) {
             Ok(ended) => ended,
             Err(_) => {
-                give_back(&self.lock, &mut self.pass);
+                give_back(&self.lock, &mut self.seat);
                 return Err(Refusal::NoStep(NoStep::NoMemory));
             }
         };
-        join(&self.lock, &mut self.pass);
+        join(&self.lock, &mut self.seat);
         self.run = next;
         Ok(last)
     }
@@ -48,15 +48,15 @@ impl<S: Scheme> SharedSession<S> {
         ensures refused { IfErr result IsPassing }
         ensures unchanged { OnErr result (self.new ≡ self.old) }
     {
-        if !try_take(&self.lock, &mut self.pass) {
+        if !try_take(&self.lock, &mut self.seat) {
             return Err(Refusal::Busy);
         }
-        let present = run_at(&self.lock, &mut self.pass);
+        let present = run_at(&self.lock, &mut self.seat);
         if present == self.run {
-            end_look(&self.lock, &mut self.pass);
+            end_reading(&self.lock, &mut self.seat);
             return Ok(());
         }
-        join(&self.lock, &mut self.pass);
+        join(&self.lock, &mut self.seat);
         self.run = present;
         Ok(())
     }

@@ -11,8 +11,8 @@ ghost use Rattle.nw_shared_store.specs.Rule.{knowing};
 ghost use Rattle.nw_shared_store.specs.Session.{HasHeard, IsOfAnother, IsPresent, IsRefused, IsSameSession, IsUnseen};
 
 use crate::Refusal;
-use crate::lock::{end_call, end_look, give_back, take_in};
-use crate::rule::{Lock, Pass};
+use crate::lock::{end_call, end_reading, give_back, take_in};
+use crate::rule::{Lock, Seat};
 use crate::work::{call_at, history_at, open_at};
 use nw_book::{Command, Done, Front, NoStep, Ticket};
 use nw_digest::Digest;
@@ -29,7 +29,7 @@ use std::sync::Arc;
 #[derive(Drop)]
 pub struct SharedSession<S: Scheme> {
     pub(crate) lock: Arc<Lock<S>, Global>,
-    pub(crate) pass: Pass<S>,
+    pub(crate) seat: Seat<S>,
     pub(crate) run: u64,
     pub(crate) id: u16,
 }
@@ -46,12 +46,12 @@ impl<S: Scheme> Model for SharedSession<S> {
 
     ghost view = { λ s. record {
       lock = s.lock.value.shared.table_id;
-      run = s.pass.me.0.run;
-      first = s.pass.me.0.first;
-      journal = s.pass.me.0.journal;
+      run = s.seat.me.0.run;
+      first = s.seat.me.0.first;
+      journal = s.seat.me.0.journal;
     } };
 
-    ghost invariant = { λ s. IsSessionAt s.lock.value.shared.table_id s.run s.id s.pass.table_id s.pass.me };
+    ghost invariant = { λ s. IsSessionAt s.lock.value.shared.table_id s.run s.id s.seat.table_id s.seat.me };
 }
 
 impl<S: Scheme> SharedSession<S> {
@@ -91,15 +91,15 @@ impl<S: Scheme> SharedSession<S> {
         ensures same { IsSameSession self.old self.new }
         ensures unchanged { OnErr result (self.new ≡ self.old) }
     {
-        take_in(&self.lock, &mut self.pass, self.run)?;
-        let done = match call_at(&self.lock, &mut self.pass, alloc, self.id, command) {
+        take_in(&self.lock, &mut self.seat, self.run)?;
+        let done = match call_at(&self.lock, &mut self.seat, alloc, self.id, command) {
             Ok(done) => done,
             Err(why) => {
-                give_back(&self.lock, &mut self.pass);
+                give_back(&self.lock, &mut self.seat);
                 return Err(Refusal::NoStep(why));
             }
         };
-        end_call(&self.lock, &mut self.pass);
+        end_call(&self.lock, &mut self.seat);
         Ok(done)
     }
 
@@ -128,15 +128,15 @@ impl<S: Scheme> SharedSession<S> {
         ensures same { IsSameSession self.old self.new }
         ensures unchanged { OnErr result (self.new ≡ self.old) }
     {
-        take_in(&self.lock, &mut self.pass, self.run)?;
-        let answer = match open_at(&self.lock, &mut self.pass, alloc, self.id, digest) {
+        take_in(&self.lock, &mut self.seat, self.run)?;
+        let answer = match open_at(&self.lock, &mut self.seat, alloc, self.id, digest) {
             Ok(answer) => answer,
             Err(why) => {
-                give_back(&self.lock, &mut self.pass);
+                give_back(&self.lock, &mut self.seat);
                 return Err(Refusal::NoStep(why));
             }
         };
-        end_call(&self.lock, &mut self.pass);
+        end_call(&self.lock, &mut self.seat);
         Ok(answer)
     }
 
@@ -155,15 +155,15 @@ impl<S: Scheme> SharedSession<S> {
         ensures same { IsSameSession self.old self.new }
         ensures unchanged { OnErr result (self.new ≡ self.old) }
     {
-        take_in(&self.lock, &mut self.pass, self.run)?;
-        let now = match history_at(&self.lock, &mut self.pass) {
+        take_in(&self.lock, &mut self.seat, self.run)?;
+        let now = match history_at(&self.lock, &mut self.seat) {
             Ok(now) => now,
             Err(_) => {
-                give_back(&self.lock, &mut self.pass);
+                give_back(&self.lock, &mut self.seat);
                 return Err(Refusal::NoStep(NoStep::NoMemory));
             }
         };
-        end_look(&self.lock, &mut self.pass);
+        end_reading(&self.lock, &mut self.seat);
         Ok(now)
     }
 

@@ -42,25 +42,35 @@ pub fn settle<S: Scheme>(sessions: &mut [SharedSession<S>]) -> Result<Front<S>, 
     ensures same { map kept sessions.new ≡ map kept sessions.old }
 {
     let given = sessions.len();
-    let (history, made) = first_history(sessions)?;
-    if usize::from(made) != given {
+    let Some((first, others)) = sessions.split_first_mut() else {
         return Err(Unsettled::Unfinished { given });
-    }
-    compare(sessions, 0, &history)?;
+    };
+    let history = first_history(first, given)?;
+    compare(others, 1, &history)?;
     Ok(history)
 }
 
-/// The history of the first session's store, and the number of sessions that it made.
-fn first_history<S: Scheme>(sessions: &mut [SharedSession<S>]) -> Result<(Front<S>, u16), Unsettled>
-    ensures below { IfOk result (λ now. All (λ e. e.session < now.1) now.0.events) }
-    ensures same { map kept sessions.new ≡ map kept sessions.old }
+/// The history of the session's store, which must have made this number of sessions. The session must have the id 0.
+fn first_history<S: Scheme>(
+    session: &mut SharedSession<S>,
+    given: usize,
+) -> Result<Front<S>, Unsettled>
+    ensures part { IfOk result (λ history. IsPart S.accepts 0 history session.new) }
+    ensures below { IfOk result (λ history. All (λ e. e.session < given) history.events) }
+    ensures few { OnOk result (given < 2 ^ 16) }
+    ensures same { kept session.new ≡ kept session.old }
 {
-    match sessions.split_first_mut() {
-        None => Err(Unsettled::Unfinished { given: 0 }),
-        Some((first, _others)) => match first.history() {
-            Ok(now) => Ok(now),
-            Err(why) => Err(Unsettled::Refused(why)),
-        },
+    match session.history() {
+        Err(why) => Err(Unsettled::Refused(why)),
+        Ok((history, made)) => {
+            if usize::from(made) != given {
+                return Err(Unsettled::Unfinished { given });
+            }
+            if session.id() != 0 {
+                return Err(Unsettled::Differs { session: 0 });
+            }
+            Ok(history)
+        }
     }
 }
 

@@ -7,8 +7,8 @@ ghost use Rattle.nw_shared_store.specs.Rule.{newcomer};
 ghost use Rattle.nw_shared_store.specs.Session.{IsOfStore, IsPassing, IsSessionAt, IsSessionOf};
 
 use crate::held::Held;
-use crate::lock::{end_enrolment, give_back, new_pass, try_take};
-use crate::rule::{Lock, Pass};
+use crate::lock::{end_enrolment, give_back, new_seat, try_take};
+use crate::rule::{Lock, Seat};
 use crate::work::{compact_at, enrol_at, history_at};
 use crate::{Refusal, SharedSession};
 use nw_book::{Book, BookError, Front, Limits, NoStep};
@@ -70,8 +70,8 @@ impl<S: Scheme> SharedStore<S> {
         let mut slots = Vec::with_capacity(alloc, 1)?;
         slots.push_reserved(Held::over(book));
         match Lock::new(alloc, &[0], slots, &first) {
-            Ok((table, pass)) => {
-                drop(pass);
+            Ok((table, seat)) => {
+                drop(seat);
                 match Arc::new(alloc, table) {
                     Ok(lock) => Ok(SharedStore { lock }),
                     Err(refused) => {
@@ -108,10 +108,10 @@ impl<S: Scheme> SharedStore<S> {
         let Ok(lock) = Arc::try_clone(&self.lock) else {
             return Err(Refusal::NoStep(NoStep::NoMemory));
         };
-        let (pass, run, id) = enrol(&lock)?;
+        let (seat, run, id) = enrol(&lock)?;
         Ok(SharedSession {
             lock,
-            pass,
+            seat,
             run,
             id,
         })
@@ -124,12 +124,12 @@ impl<S: Scheme> SharedStore<S> {
         ensures of_store { IfOk result (IsOfStore S.accepts self.now) }
         ensures refused { IfErr result IsPassing }
     {
-        let mut pass = new_pass(&self.lock);
-        if !try_take(&self.lock, &mut pass) {
+        let mut seat = new_seat(&self.lock);
+        if !try_take(&self.lock, &mut seat) {
             return Err(Refusal::Busy);
         }
-        let found = history_at(&self.lock, &mut pass);
-        give_back(&self.lock, &mut pass);
+        let found = history_at(&self.lock, &mut seat);
+        give_back(&self.lock, &mut seat);
         match found {
             Ok((history, _)) => Ok(history),
             Err(_) => Err(Refusal::NoStep(NoStep::NoMemory)),
@@ -143,12 +143,12 @@ impl<S: Scheme> SharedStore<S> {
     pub fn compact(&self, alloc: Global) -> Result<(), Refusal>
         ensures { IfErr result IsPassing }
     {
-        let mut pass = new_pass(&self.lock);
-        if !try_take(&self.lock, &mut pass) {
+        let mut seat = new_seat(&self.lock);
+        if !try_take(&self.lock, &mut seat) {
             return Err(Refusal::Busy);
         }
-        let done = compact_at(&self.lock, &mut pass, alloc);
-        give_back(&self.lock, &mut pass);
+        let done = compact_at(&self.lock, &mut seat, alloc);
+        give_back(&self.lock, &mut seat);
         match done {
             Ok(()) => Ok(()),
             Err(_) => Err(Refusal::NoStep(NoStep::NoMemory)),
@@ -157,7 +157,7 @@ impl<S: Scheme> SharedStore<S> {
 }
 
 /// Makes a new session under the lock. Returns its seat, its run and its number.
-fn enrol<S: Scheme>(lock: &Lock<S>) -> Result<(Pass<S>, u64, u16), Refusal>
+fn enrol<S: Scheme>(lock: &Lock<S>) -> Result<(Seat<S>, u64, u16), Refusal>
     requires { (lock.now.shared.table_id.words ≡ 1) × (lock.now.shared.table_id.slots ≡ 1) }
     ensures session { IfOk result (λ made.
         IsSessionAt lock.now.shared.table_id made.1 made.2 made.0.table_id made.0.me) }
@@ -165,17 +165,17 @@ fn enrol<S: Scheme>(lock: &Lock<S>) -> Result<(Pass<S>, u64, u16), Refusal>
         IsSessionOf (record { lock = lock.now.shared.table_id; first = lock.now.shared.key })
         (record { lock = lock.now.shared.table_id; run = made.0.me.0.run; first = made.0.me.0.first; journal = made.0.me.0.journal })) }
 {
-    let mut pass = new_pass(lock);
-    if !try_take(lock, &mut pass) {
+    let mut seat = new_seat(lock);
+    if !try_take(lock, &mut seat) {
         return Err(Refusal::Busy);
     }
-    match enrol_at(lock, &mut pass) {
+    match enrol_at(lock, &mut seat) {
         Some((run, id)) => {
-            end_enrolment(lock, &mut pass);
-            Ok((pass, run, id))
+            end_enrolment(lock, &mut seat);
+            Ok((seat, run, id))
         }
         None => {
-            give_back(lock, &mut pass);
+            give_back(lock, &mut seat);
             Err(Refusal::TooMany)
         }
     }

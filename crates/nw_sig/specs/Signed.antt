@@ -1,9 +1,9 @@
 -- The texts that are signed, and the meaning of a signature scheme.
 use Rattle.std.specs.Prelude.{ℕ, Bool, List, ◌++◌, codes}
-use Rattle.std.specs.Int.{to_be_bytes, w16}
 use Rattle.nw_digest.specs.declared.digest.Digest.{Digest}
-use Rattle.nw_codec.specs.Grammar.{round_bytes}
+use Rattle.nw_codec.specs.Grammar.{subject_bytes}
 use Rattle.nw_codec.specs.declared.certificate.Signature.{Signature}
+use Rattle.nw_codec.specs.declared.subject.Subject.{Subject}
 use Rattle.nw_committee.specs.declared.member.Key.{Key}
 
 -- the meaning of a scheme: under which key it accepts which signature for which text
@@ -15,5 +15,5 @@ unfoldable pub text_of_block : Digest → List ℕ
 text_of_block digest = codes "NWBK" ++ digest.0
 
 -- the text that a member signs to vote for a block: the letters NWVT, and the block's digest, round and author
-unfoldable pub text_of_vote : Digest → ℕ → ℕ → List ℕ
-text_of_vote digest round author = codes "NWVT" ++ digest.0 ++ round_bytes round ++ to_be_bytes w16 author
+unfoldable pub text_of_vote : Subject → List ℕ
+text_of_vote s = codes "NWVT" ++ subject_bytes s

@@ -1,5 +1,6 @@
 -- The maps of slots that a copy of the tables makes, digest by digest.
 use Rattle.std.proofs.Common.{◌≡◌, ℕ, inr, List, [], ◌∷◌, ◌++◌, Option, Some, None, refl, sym, ap, ◌∙◌, subst}
+use Rattle.std.proofs.lemmas.Option.{same_Some}
 use Rattle.std.specs.Prelude.{Contains}
 use Rattle.std.specs.Option.{option_map}
 use Rattle.std.specs.BTreeMap.{insert_entry}
@@ -12,10 +13,10 @@ use Rattle.nw_model.specs.declared.wanted.Wanted.{Wanted}
 use Rattle.nw_model.specs.State.{State, block_slot, certificate_slot}
 use Rattle.nw_rounds.specs.Slots.{HasAllDigests, Tables}
 use Rattle.nw_model.specs.Sound.{IsIndex, IsSound, IsSoundWithIndex}
-use Rattle.nw_model.proofs.Maps.{slots_apart, slots_total}
+use Rattle.nw_digest.proofs.Maps.{slots_apart, slots_total}
 use Rattle.nw_state.specs.StateTables.{AreStateTables, state_of}
 use Rattle.nw_state.specs.Standing.{name_of}
-use Rattle.nw_state.proofs.Gathered.{Gathers, gathers_entry, gathers_skip, one}
+use Rattle.nw_state.proofs.Gathered.{Gathers, gathers_entry, gathers_skip}
 
 -- the block whose name was found
 pub named : (d : Digest) (found : Option Block) (name : Wanted) → option_map (name_of d) found ≡ Some name → (b : Block) × (found ≡ Some b) × (name_of d b ≡ name)
@@ -52,8 +53,8 @@ module _ (s : State) where
       gathers_entry (λ slot d. d) IsFirstAt slots_total slots_apart digests d old new (block_slot b) d gathers first
       (λ slot e is same.
       let (x, held, at) = voted slot e is in
-      ap block_slot (one b x (sym there ∙ ap (get s.blocks) same ∙ held)) ∙ at)
-      (λ slot e f is also. one e f (sym is ∙ also))
+      ap block_slot (same_Some b x (sym there ∙ ap (get s.blocks) same ∙ held)) ∙ at)
+      (λ slot e f is also. same_Some e f (sym is ∙ also))
       put
 
   pub first_skip : AreVoted s → (digests : List Digest) (d : Digest) (m : FinMap slot_cmp Digest) → GathersSlots IsFirstAt digests m
@@ -66,7 +67,7 @@ module _ (s : State) where
       → new ≡ insert_entry slot_cmp old (certificate_slot c) d → GathersSlots IsCertifiedAt (digests ++ d ∷ []) (from_entries new)
   certified_put sound digests d c old new gathers kept put =
       gathers_entry (λ slot d. d) IsCertifiedAt slots_total slots_apart digests d old new (certificate_slot c) d gathers (c, kept, refl)
-      (λ slot e (x, is, at) same. ap certificate_slot (one c x (sym kept ∙ ap (get s.certificates) same ∙ is)) ∙ at)
+      (λ slot e (x, is, at) same. ap certificate_slot (same_Some c x (sym kept ∙ ap (get s.certificates) same ∙ is)) ∙ at)
       (λ slot e f (x, is, at) (y, also, here). sound.one_certificate e f x y is also (at ∙ sym here))
       put
 

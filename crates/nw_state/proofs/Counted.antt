@@ -13,6 +13,7 @@ use Rattle.std.proofs.lemmas.Map.Keys.{IsDistinct-cons, IsDistinct-from_sorted, 
 use Rattle.std.proofs.lemmas.Map.Made.{length-le_from_is_member, Contains-from_values_of, Contains-values_of, IsDistinct-keys_filter}
 use Rattle.std.proofs.lemmas.Map.Steps.{length-le_from_keys}
 use Rattle.std.proofs.lemmas.Map.Views.{Contains-from_any, list_any-from_Contains, IsSome-lookup_from_Contains}
+use Rattle.std.proofs.lemmas.Bool.{true≢false}
 use Rattle.nw_digest.specs.declared.digest.Digest.{Digest}
 use Rattle.nw_codec.specs.declared.block.Block.{Block}
 use Rattle.nw_codec.specs.declared.certificate.Certificate.{Certificate}
@@ -25,12 +26,12 @@ use Rattle.nw_digest.specs.Order.{digest_cmp, Slot}
 use Rattle.nw_model.specs.State.{State, block_slot}
 use Rattle.nw_model.specs.Step.{raised}
 use Rattle.nw_model.proofs.Complete.{one_block}
-use Rattle.nw_model.proofs.Kept.{same_digest, some_none}
-use Rattle.nw_model.proofs.Listed.{contains_cases, contains_first, contains_later, contains_none}
-use Rattle.nw_model.proofs.Maps.{digests_total, get_lookup, len_sorted}
+use Rattle.nw_model.proofs.Kept.{some_none}
+use Rattle.nw_digest.proofs.Elements.{contains_cases, contains_first, contains_later, contains_none, contains_filter}
+use Rattle.nw_digest.proofs.Maps.{digests_total, get_lookup, len_sorted, same_digest}
+use Rattle.nw_digest.proofs.Found.{which}
 use Rattle.nw_state.specs.StateTables.{AreStateTables, state_of}
 use Rattle.nw_state.specs.Collection.{counts_at}
-use Rattle.nw_state.proofs.Filtered.{filter_was, filter_has}
 use Rattle.nw_state.proofs.HeldRaised.{certified_slot}
 use Rattle.nw_state.proofs.Opening.{none_once}
 use Rattle.nw_state.proofs.Dropped.{both_counts, count_kept}
@@ -40,13 +41,6 @@ is_lower a b h = grind arith
 
 lower_is : (a b : ℕ) → nat_lt a b ≡ true → a < b
 lower_is a b e = grind arith
-
-true_false : true ≡ false → ⊥
-true_false e = cc
-
-is_held : (found : Option Block) → is_some found ≡ true → (b : Block) × (found ≡ Some b)
-is_held (Some b) e = (b, refl)
-is_held None e = cc
 
 -- the kind under which a digest with this certificate, if any, is counted
 abbrev kind_for : Option Certificate → DigestKind
@@ -85,7 +79,7 @@ digests_once (e ∷ es) once one =
     IsDistinct-cons (eq_by_cmp digest_cmp) e.1 (values_of es) (no_other e.1 es (λ p among.
     let same : e.0 ≡ p = one e.0 p e.1 (contains_first e es) (contains_later e es (p, e.1) among) in
     let apart = All-contains (λ y. eq_by_cmp place_cmp e.0 y ≡ false) (keys_of es) p (All-from_recursion _ (keys_of es) (IsDistinct-head (eq_by_cmp place_cmp) e.0 (keys_of es) once)) (key_among es p e.1 among) in
-    true_false (sym ((eq_by_cmp_equiv places_total).refl e.0) ∙ ap (eq_by_cmp place_cmp e.0) same ∙ apart)))
+    true≢false (sym ((eq_by_cmp_equiv places_total).refl e.0) ∙ ap (eq_by_cmp place_cmp e.0) same ∙ apart)))
     (digests_once es (IsDistinct-tail (eq_by_cmp place_cmp) e.0 (keys_of es) once) (λ p q d first second. one p q d (contains_later e es (p, d) first) (contains_later e es (q, d) second)))
 
 module _ (blocks : List (Digest × Block)) (certificates : List (Digest × Certificate)) (slots : Tables) (floor : ℕ) (held : AreStateTables blocks certificates slots floor) (round : ℕ)
@@ -106,15 +100,15 @@ module _ (blocks : List (Digest × Block)) (certificates : List (Digest × Certi
   -- a counted digest has its block's place
   at_home : (p : Place) (d : Digest) → Contains counted (p, d) → (b : Block) × (get s.blocks d ≡ Some b) × (b.round < round) × (p ≡ home d b)
   at_home (slot, First) d among =
-      let both = filter_was test places ((slot, First), d) among in
+      let both = (contains_filter test places ((slot, First), d)).0 among in
       let is = (are.exactly (slot, First) d).0 both.0 in
       let (b, there, here) = held.voted slot d is.2 in
       let kind : First ≡ kind_for (get s.certificates d) = not_certified (get s.certificates d) both.1 in
       (b, there, omega (arith, is.1, ap (λ (q : Slot). q.0) here), λ i. (sym here i, kind i))
   at_home (slot, Certified) d among =
-      let both = filter_was test places ((slot, Certified), d) among in
+      let both = (contains_filter test places ((slot, Certified), d)).0 among in
       let is = (are.exactly (slot, Certified) d).0 both.0 in
-      let (b, there) = is_held (get s.blocks d) both.1 in
+      let (b, there) = which (get s.blocks d) both.1 in
       let here : block_slot b ≡ slot = certified_slot blocks certificates slots floor held slot d b is.2 there in
       let (c, kept, at) = (held.kept.indexed slot d).0 is.2 in
       (b, there, omega (arith, is.1, ap (λ (q : Slot). q.0) here), λ i. (sym here i, kind_for (sym kept i)))
@@ -125,12 +119,12 @@ module _ (blocks : List (Digest × Block)) (certificates : List (Digest × Certi
     where
       by : (found : Option Certificate) → get s.certificates d ≡ found → Contains counted ((block_slot b, kind_for found), d)
       by None is = elim (held.listed d b there) [
-        | inl first ↦ filter_has test places ((block_slot b, First), d) ((are.exactly (block_slot b, First) d).1 (omega arith, low, first)) (ap (λ found. not (is_some found)) is)
+        | inl first ↦ (contains_filter test places ((block_slot b, First), d)).1 ((are.exactly (block_slot b, First) d).1 (omega arith, low, first), ap (λ found. not (is_some found)) is)
         | inr certified ↦ let (c, at, here) = (held.kept.indexed (block_slot b) d).0 certified in absurd (some_none c (sym at ∙ is))
       ]
       by (Some c) is =
-          filter_has test places ((block_slot b, Certified), d)
-          ((are.exactly (block_slot b, Certified) d).1 (omega arith, low, (held.kept.indexed (block_slot b) d).1 (c, is, sym (held.kept.sound.one_slot d b c there is)))) (ap is_some there)
+          (contains_filter test places ((block_slot b, Certified), d)).1
+          ((are.exactly (block_slot b, Certified) d).1 (omega arith, low, (held.kept.indexed (block_slot b) d).1 (c, is, sym (held.kept.sound.one_slot d b c there is))), ap is_some there)
 
   abbrev low : List Digest
   low = values_of counted

@@ -1,5 +1,5 @@
 -- Entries before and after values of lower rounds are dropped.
-use Rattle.std.proofs.Common.{◌≡◌, ◌⊎◌, ℕ, ◌+◌, ◌<◌, ◌≤◌, Bool, true, false, not, cond, List, [], ◌∷◌, ◌++◌, filter, length, Option, Some, None, refl, ap, sym, ◌∙◌, subst, arith, inl, inr}
+use Rattle.std.proofs.Common.{◌≡◌, ◌⊎◌, ℕ, ◌+◌, ◌≤◌, Bool, true, false, cond, List, [], ◌∷◌, ◌++◌, filter, length, Option, Some, None, refl, ap, sym, ◌∙◌, subst, arith, inl, inr}
 use Rattle.std.specs.Prelude.{Contains, nat_le, nat_lt}
 use Rattle.std.specs.declared.cmp.Ordering.{Ordering}
 use Rattle.std.specs.declared.cmp.Ordering.TheVariants.{Less}
@@ -11,31 +11,22 @@ use Rattle.std.specs.Cmp.{eq_by_cmp_equiv}
 use Rattle.std.specs.Map.{keys_of, lookup, remove_entry}
 use Rattle.std.specs.BTreeMap.{is_at}
 use Rattle.std.specs.FinMap.{len, from_entries, same_map}
-use Rattle.std.proofs.lemmas.Bool.{cases_lt}
+use Rattle.std.proofs.lemmas.Bool.{cases_lt, le-leb, lt-leb}
 use Rattle.std.proofs.lemmas.List.Elements.{Contains-push_cases}
 use Rattle.std.proofs.lemmas.List.Filters.{length-filter_both}
 use Rattle.std.proofs.lemmas.Map.{lookup-remove_entry}
 use Rattle.std.proofs.lemmas.Map.Keys.{IsDistinct-from_sorted, sorted_head, sorted_tail}
+use Rattle.std.proofs.lemmas.Option.{none-some, same_Some}
+use Rattle.nw_plain.proofs.Dropped.{not_below, sorted_cons, sorted_filter}
 use Rattle.nw_digest.specs.declared.digest.Digest.{Digest}
 use Rattle.nw_digest.specs.Order.{digest_cmp}
 use Rattle.nw_model.specs.Step.{from_round}
-use Rattle.nw_model.proofs.Kept.{same_digest}
-use Rattle.nw_model.proofs.Listed.{contains_cases, contains_none}
-use Rattle.nw_model.proofs.Maps.{digests_total, digests_apart, get_lookup, len_sorted}
+use Rattle.nw_digest.proofs.Elements.{contains_cases, contains_none}
+use Rattle.nw_digest.proofs.Maps.{digests_total, digests_apart, get_lookup, len_sorted, same_digest}
 use Rattle.nw_model.proofs.Raised.{at_round, filtered_round}
 use Rattle.nw_state.specs.Dropping.{IsBelowRound, DropsBelow}
 
-none_some : {X : Type 0} (x : X) → None ≡ Some x → ⊥
-none_some x e = cc
-
-one : {X : Type 0} (x y : X) → Some x ≡ Some y → x ≡ y
-one x y e = cc
-
 -- ---- entries stay in order if some are removed
-
-sorted_cons : {K : Type 0} (R : K → K → Ordering) (x : K) (xs : List K) → AllByRecursion (λ y. R x y ≡ Less) xs → IsStrictlySortedBy R xs → IsStrictlySortedBy R (x ∷ xs)
-unfolding IsStrictlySortedBy
-sorted_cons R x xs above rest = (above, rest)
 
 module _ {K X : Type 0} (R : K → K → Ordering) (test : K → Bool) where
   above_removed : (k : K) (es : List (K × X)) → AllByRecursion (λ y. R k y ≡ Less) (keys_of es) → AllByRecursion (λ y. R k y ≡ Less) (keys_of (remove_entry test es))
@@ -54,23 +45,6 @@ module _ {K X : Type 0} (R : K → K → Ordering) (test : K → Bool) where
       by true rest = sorted_tail R e.0 (keys_of es) sorted
       by false rest = sorted_cons R e.0 (keys_of (remove_entry test es)) (above_removed e.0 es (sorted_head R e.0 (keys_of es) sorted)) rest
 
-module _ {K X : Type 0} (R : K → K → Ordering) (p : K × X → Bool) where
-  above_filter : (k : K) (es : List (K × X)) → AllByRecursion (λ y. R k y ≡ Less) (keys_of es) → AllByRecursion (λ y. R k y ≡ Less) (keys_of (filter p es))
-  above_filter k [] all = all
-  above_filter k (e ∷ es) all = by (p e) (above_filter k es all.1)
-    where
-      by : (b : Bool) → AllByRecursion (λ y. R k y ≡ Less) (keys_of (filter p es)) → AllByRecursion (λ y. R k y ≡ Less) (keys_of (cond b (e ∷ filter p es) (filter p es)))
-      by true rest = (all.0, rest)
-      by false rest = rest
-
-  pub sorted_filter : (es : List (K × X)) → IsStrictlySortedBy R (keys_of es) → IsStrictlySortedBy R (keys_of (filter p es))
-  sorted_filter [] sorted = sorted
-  sorted_filter (e ∷ es) sorted = by (p e) (sorted_filter es (sorted_tail R e.0 (keys_of es) sorted))
-    where
-      by : (b : Bool) → IsStrictlySortedBy R (keys_of (filter p es)) → IsStrictlySortedBy R (keys_of (cond b (e ∷ filter p es) (filter p es)))
-      by true rest = sorted_cons R e.0 (keys_of (filter p es)) (above_filter e.0 es (sorted_head R e.0 (keys_of es) sorted)) rest
-      by false rest = rest
-
 -- ---- dropped values
 
 module _ {V : Type 0} (round_of : V → ℕ) (round : ℕ) where
@@ -78,21 +52,13 @@ module _ {V : Type 0} (round_of : V → ℕ) (round : ℕ) where
   at d es = lookup (is_at (digest_cmp d)) es
 
   no_none : (found : Option V) → found ≡ None → IsBelowRound round_of round found → ⊥
-  no_none found none (v, is, low) = none_some v (sym none ∙ is)
+  no_none found none (v, is, low) = none-some v (sym none ∙ is)
 
   -- no digest was tested
   pub drops_none : (es : List (Digest × V)) → IsStrictlySortedBy digest_cmp (keys_of es) → DropsBelow round_of round [] es es
   drops_none es sorted = record {
     stays = λ d. inl refl;
     gone = λ d among below. contains_none d among;
-    ordered = sorted;
-  }
-
-  -- one digest was tested, whose value is not below the round
-  pub drops_not : (d : Digest) (es : List (Digest × V)) → IsStrictlySortedBy digest_cmp (keys_of es) → (IsBelowRound round_of round (at d es) → ⊥) → DropsBelow round_of round (d ∷ []) es es
-  drops_not d es sorted high = record {
-    stays = λ q. inl refl;
-    gone = λ q among below. elim (contains_cases d [] q among) [ inl same ↦ high (subst (λ x. IsBelowRound round_of round (at x es)) (sym same) below) | inr none ↦ contains_none q none ];
     ordered = sorted;
   }
 
@@ -142,18 +108,12 @@ module _ {V : Type 0} (round_of : V → ℕ) (round : ℕ) where
   kept_only None high = refl
   kept_only (Some v) high = elim (cases_lt (round_of v) round) [
     | inl low ↦ absurd (high (v, refl, low))
-    | inr above ↦ let yes : nat_le round (round_of v) ≡ true = is_low round (round_of v) above in ap (λ b. cond b (Some v) None) yes
+    | inr above ↦ let yes : nat_le round (round_of v) ≡ true = le-leb round (round_of v) above in ap (λ b. cond b (Some v) None) yes
   ]
-    where
-      is_low : (a b : ℕ) → a ≤ b → nat_le a b ≡ true
-      is_low a b h = grind arith
 
   dropped_only : (found : Option V) → IsBelowRound round_of round found → cond (option_map_or (λ x. nat_le round (round_of x)) found false) found None ≡ None
   dropped_only found (v, is, low) =
-      ap (λ f. cond (option_map_or (λ x. nat_le round (round_of x)) f false) f None) is ∙ ap (λ b. cond b (Some v) None) (not_low round (round_of v) low)
-    where
-      not_low : (a b : ℕ) → b < a → nat_le a b ≡ false
-      not_low a b h = grind arith
+      ap (λ f. cond (option_map_or (λ x. nat_le round (round_of x)) f false) f None) is ∙ ap (λ b. cond b (Some v) None) (lt-leb round (round_of v) low)
 
   -- if all values below the round are under these digests, exactly the values from the round on stay
   pub dropped_is : (digests : List Digest) (old new : List (Digest × V)) → DropsBelow round_of round digests old new → ((d : Digest) → IsBelowRound round_of round (at d old) → Contains digests d)
@@ -163,10 +123,10 @@ module _ {V : Type 0} (round_of : V → ℕ) (round : ℕ) where
       ∙ sym (at_round round_of round (from_entries old) q))
     where
       below_or_not : (found : Option V) → IsBelowRound round_of round found ⊎ (IsBelowRound round_of round found → ⊥)
-      below_or_not None = inr (λ (v, is, low). none_some v is)
+      below_or_not None = inr (λ (v, is, low). none-some v is)
       below_or_not (Some v) = elim (cases_lt (round_of v) round) [
         | inl low ↦ inl (v, refl, low)
-        | inr above ↦ inr (λ (x, is, low). let same : round_of v ≡ round_of x = ap round_of (one v x is) in omega (arith, same, low, above))
+        | inr above ↦ inr (λ (x, is, low). let same : round_of v ≡ round_of x = ap round_of (same_Some v x is) in omega (arith, same, low, above))
       ]
 
       stays : (q : Digest) → at q new ≡ cond (option_map_or (λ x. nat_le round (round_of x)) (at q old) false) (at q old) None
@@ -178,9 +138,6 @@ module _ {V : Type 0} (round_of : V → ℕ) (round : ℕ) where
   -- the number of values that stay
   pub count_kept : (es : List (Digest × V)) → IsStrictlySortedBy digest_cmp (keys_of es) → len (from_round round_of round (from_entries {R = digest_cmp} es)) ≡ length (filter (λ e. nat_le round (round_of e.1)) es)
   count_kept es sorted = ap len (sym (filtered_round round_of round es sorted)) ∙ len_sorted digests_total (filter (λ e. nat_le round (round_of e.1)) es) (sorted_filter digest_cmp (λ e. nat_le round (round_of e.1)) es sorted)
-
-  not_below : (a b : ℕ) → nat_lt a b ≡ not (nat_le b a)
-  not_below a b = grind arith
 
   pub both_counts : (es : List (Digest × V)) → length (filter (λ e. nat_le round (round_of e.1)) es) + length (filter (λ e. nat_lt (round_of e.1) round) es) ≡ length es
   both_counts es = length-filter_both (λ (e : Digest × V). nat_le round (round_of e.1)) (λ (e : Digest × V). nat_lt (round_of e.1) round) (λ e. not_below (round_of e.1) round) es

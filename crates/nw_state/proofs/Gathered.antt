@@ -2,31 +2,20 @@
 use Rattle.std.proofs.Common.{◌≡◌, Bool, true, false, cond, List, [], ◌∷◌, ◌++◌, Option, Some, None, refl, ap, sym, ◌∙◌, subst, inl, inr}
 use Rattle.std.specs.Prelude.{◌↔◌, Contains}
 use Rattle.std.specs.declared.cmp.Ordering.{Ordering}
-use Rattle.std.specs.declared.cmp.Ordering.TheVariants.{Less, Equal, Greater}
-use Rattle.std.specs.Ordering.{is_eq, eq_by_cmp}
+use Rattle.std.specs.Ordering.{eq_by_cmp}
 use Rattle.std.specs.Cmp.{IsTotalOrder, eq_by_cmp_equiv}
 use Rattle.std.specs.BTreeMap.{insert_entry}
 use Rattle.std.specs.FinMap.{FinMap, IsAntisymmetric, empty, from_entries, get, insert, get-empty, get-insert}
 use Rattle.std.proofs.lemmas.List.Elements.{Contains-push_cases}
+use Rattle.std.proofs.lemmas.Option.{none-some, same_Some}
 use Rattle.nw_digest.specs.declared.digest.Digest.{Digest}
-use Rattle.nw_model.proofs.Listed.{contains_none}
-use Rattle.nw_model.proofs.Maps.{put_entries}
-
-none_some : {X : Type 0} (x : X) → None ≡ Some x → ⊥
-none_some x e = cc
-
-pub one : {X : Type 0} (x y : X) → Some x ≡ Some y → x ≡ y
-one x y e = cc
-
-tie : (r : Ordering) → is_eq r ≡ true → r ≡ Equal
-tie Less e = cc
-tie Equal e = refl
-tie Greater e = cc
+use Rattle.nw_digest.proofs.Elements.{contains_none}
+use Rattle.nw_digest.proofs.Maps.{put_entries, tie}
 
 -- two results with the same values are the same
 pub same_values : {X : Type 0} (a b : Option X) → ((x : X) → (a ≡ Some x) ↔ (b ≡ Some x)) → a ≡ b
 same_values None None same = refl
-same_values None (Some x) same = absurd (none_some x ((same x).1 refl))
+same_values None (Some x) same = absurd (none-some x ((same x).1 refl))
 same_values (Some x) b same = sym ((same x).0 refl)
 
 module _ {K X : Type 0} {R : K → K → Ordering} (digest_at : K → X → Digest) (Q : K → X → Type 0) where
@@ -40,7 +29,7 @@ module _ {K X : Type 0} {R : K → K → Ordering} (digest_at : K → X → Dige
   -- no digest was read
   pub gathers_none : IsTotalOrder R → Gathers [] empty
   gathers_none o = record {
-    only = λ k x found. absurd (none_some x (sym (get-empty R k) ∙ found));
+    only = λ k x found. absurd (none-some x (sym (get-empty R k) ∙ found));
     all = λ k x is among. absurd (contains_none (digest_at k x) among);
   }
 
@@ -65,7 +54,7 @@ module _ {K X : Type 0} {R : K → K → Ordering} (digest_at : K → X → Dige
       only : (j : K) (y : X) (b : Bool) → eq_by_cmp R j k ≡ b → cond b (Some x) (get m j) ≡ Some y → Q j y
       only j y true tied found =
           let same : j ≡ k = apart j k (tie (R j k) tied) in
-          subst (λ z. Q j z) (one x y found) (subst (λ i. Q i x) (sym same) is)
+          subst (λ z. Q j z) (same_Some x y found) (subst (λ i. Q i x) (sym same) is)
       only j y false other found = gathers.only j y found
 
       all : (j : K) (y : X) → Q j y → Contains (digests ++ d ∷ []) (digest_at j y) → (b : Bool) → eq_by_cmp R j k ≡ b → cond b (Some x) (get m j) ≡ Some y

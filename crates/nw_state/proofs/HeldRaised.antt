@@ -1,6 +1,5 @@
 -- The tables after a collection.
-use Rattle.std.proofs.Common.{◌≡◌, ℕ, ◌+◌, ◌≤◌, List, Some, Result, Ok, Err, refl, sym, ap, ◌∙◌, subst, arith, inl, inr}
-use Rattle.std.specs.Prelude.{IfOk}
+use Rattle.std.proofs.Common.{◌≡◌, ℕ, ◌+◌, ◌≤◌, List, Some, refl, sym, ap, ◌∙◌, subst, arith, inl, inr}
 use Rattle.std.specs.FinMap.{get, len, from_entries}
 use Rattle.std.proofs.lemmas.Map.Keys.{IsDistinct-from_sorted}
 use Rattle.nw_digest.specs.declared.digest.Digest.{Digest}
@@ -12,7 +11,7 @@ use Rattle.nw_model.specs.State.{State, block_slot, certificate_slot}
 use Rattle.nw_model.specs.Step.{raised, from_round}
 use Rattle.nw_model.specs.Sound.{IsSoundWithIndex}
 use Rattle.nw_model.proofs.Complete.{one_block}
-use Rattle.nw_model.proofs.Maps.{get_lookup, digests_total}
+use Rattle.nw_digest.proofs.Maps.{get_lookup, digests_total}
 use Rattle.nw_model.proofs.Raised.{is_kept, kept_raised, slots_from, slot_is_kept, slot_was_there, was_there}
 use Rattle.nw_state.specs.StateTables.{AreStateTables, state_of}
 use Rattle.nw_state.specs.Dropping.{DropsBelow}
@@ -78,7 +77,3 @@ module _ (blocks : List (Digest × Block)) (certificates : List (Digest × Certi
         omega (arith, same, low);
     once = IsDistinct-from_sorted digest_cmp listed between.ascending;
   }
-
-pub if_ok : {T E : Type 0} (r : Result T E) {P Q : T → Type 0} → ((x : T) → P x → Q x) → IfOk r P → IfOk r Q
-if_ok (Ok x) f p = f x p
-if_ok (Err e) f p = p

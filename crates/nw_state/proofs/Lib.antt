@@ -1,7 +1,6 @@
 pub mod Opening
 pub mod Puts
 pub mod Dropped
-pub mod Filtered
 pub mod HeldRaised
 pub mod Send
 pub mod Counted

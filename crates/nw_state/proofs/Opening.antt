@@ -1,5 +1,6 @@
 -- A state in which nothing is held.
-use Rattle.std.proofs.Common.{◌≡◌, [], Some, None, sym, ◌∙◌}
+use Rattle.std.proofs.Common.{◌≡◌, [], Some, sym, ◌∙◌}
+use Rattle.std.proofs.lemmas.Option.{none-some}
 use Rattle.std.specs.List.{IsDistinct}
 use Rattle.std.specs.Ordering.{eq_by_cmp}
 use Rattle.std.specs.List.Sorted.{IsStrictlySortedBy}
@@ -11,9 +12,6 @@ use Rattle.nw_digest.specs.Order.{digest_cmp, Slot, slot_cmp}
 use Rattle.nw_model.specs.State.{block_slot}
 use Rattle.nw_state.specs.StateTables.{IsListed}
 
-none_some : {X : Type 0} (x : X) → None ≡ Some x → ⊥
-none_some x e = cc
-
 pub ordered_none : IsStrictlySortedBy digest_cmp []
 unfolding IsStrictlySortedBy
 ordered_none = tt
@@ -23,7 +21,7 @@ unfolding IsDistinct
 none_once = tt
 
 pub nothing_listed : (d : Digest) (b : Block) → get (from_entries {R = digest_cmp} []) d ≡ Some b → IsListed no_digests d b
-nothing_listed d b at = absurd (none_some b (sym (get-empty digest_cmp d) ∙ at))
+nothing_listed d b at = absurd (none-some b (sym (get-empty digest_cmp d) ∙ at))
 
 pub nothing_voted : (slot : Slot) (d : Digest) → get no_digests.firsts slot ≡ Some d → (b : Block) × (get (from_entries {R = digest_cmp} []) d ≡ Some b) × (block_slot b ≡ slot)
-nothing_voted slot d at = absurd (none_some d (sym (get-empty slot_cmp slot) ∙ at))
+nothing_voted slot d at = absurd (none-some d (sym (get-empty slot_cmp slot) ∙ at))

@@ -1,5 +1,5 @@
 -- The tables after one more block or certificate.
-use Rattle.std.proofs.Common.{◌≡◌, ◌⊎◌, ℕ, ◌≤◌, true, false, not, Bool, List, [], ◌∷◌, Option, Some, None, IsNone, IsSome, is_some, cond, refl, ap, sym, ◌∙◌, subst, inl, inr}
+use Rattle.std.proofs.Common.{◌≡◌, ◌⊎◌, ℕ, ◌≤◌, true, false, not, Bool, List, [], ◌∷◌, Option, Some, None, IsSome, is_some, cond, refl, ap, sym, ◌∙◌, subst, inl, inr}
 use Rattle.std.specs.Option.{option_and_then}
 use Rattle.std.specs.declared.cmp.Ordering.{Ordering}
 use Rattle.std.specs.declared.cmp.Ordering.TheVariants.{Less, Equal, Greater}
@@ -17,17 +17,10 @@ use Rattle.nw_digest.specs.Order.{digest_cmp, Slot, slot_cmp}
 use Rattle.nw_model.specs.State.{State, block_slot, certificate_slot}
 use Rattle.nw_model.specs.Step.{has_other_slot, is_digest, other_first, with_block, with_certificate, certified_digest}
 use Rattle.nw_model.specs.Sound.{IsSoundWithIndex}
-use Rattle.nw_model.proofs.Kept.{kept_written, index_with_certificate, sound_with_certificate, index_answers, after_insert, after_slot, at_insert, at_slot, still_insert, still_slot}
+use Rattle.nw_model.proofs.Kept.{kept_written, index_with_certificate, sound_with_certificate, index_answers, after_insert, after_slot, at_insert, at_slot, still_insert, still_slot, some_none}
 use Rattle.nw_model.proofs.Sames.{same_digest_decides}
-use Rattle.nw_model.proofs.Maps.{put_entries, digests_total, digests_apart}
+use Rattle.nw_digest.proofs.Maps.{put_entries, digests_total, digests_apart}
 use Rattle.nw_state.specs.StateTables.{AreStateTables, IsListed, state_of}
-
-pub absent : {A : Type 0} (found : Option A) → IsNone found → found ≡ None
-absent None h = refl
-absent (Some a) h = cc
-
-none_some : {X : Type 0} (x : X) → Some x ≡ None → ⊥
-none_some x e = cc
 
 -- a value that is inserted at a free digest and removed again
 pub taken_back : {V : Type 0} (es : List (Digest × V)) (d : Digest) (v : V) → lookup (is_at (digest_cmp d)) es ≡ None → remove_entry (is_at (digest_cmp d)) (insert_entry digest_cmp es d v) ≡ es
@@ -38,7 +31,7 @@ taken_back (e ∷ es) d v none = by (digest_cmp d e.0) refl none (taken_back es 
         → (lookup (is_at (digest_cmp d)) es ≡ None → remove_entry (is_at (digest_cmp d)) (insert_entry digest_cmp es d v) ≡ es)
         → remove_entry (is_at (digest_cmp d)) (match_ordering r ((d, v) ∷ e ∷ es) ((e.0, v) ∷ es) (e ∷ insert_entry digest_cmp es d v)) ≡ e ∷ es
     by Less is at rest = ap (λ b. cond b (e ∷ es) ((d, v) ∷ remove_entry (is_at (digest_cmp d)) (e ∷ es))) ((eq_by_cmp_equiv digests_total).refl d)
-    by Equal is at rest = absurd (none_some e.1 (sym (ap (λ r. cond (is_eq r) (Some e.1) (lookup (is_at (digest_cmp d)) es)) is) ∙ at))
+    by Equal is at rest = absurd (some_none e.1 (sym (ap (λ r. cond (is_eq r) (Some e.1) (lookup (is_at (digest_cmp d)) es)) is) ∙ at))
     by Greater is at rest =
         let here : is_at (digest_cmp d) e.0 ≡ false = ap is_eq is in
         ap (λ b. cond b (insert_entry digest_cmp es d v) (e ∷ remove_entry (is_at (digest_cmp d)) (insert_entry digest_cmp es d v))) here
@@ -55,7 +48,7 @@ known_first s d slot alone voted = by (get s.certificates d) refl (get s.firsts 
   where
     only : (first : Digest) (b : Bool) → is_digest first d ≡ b → cond b None (Some first) ≡ None → first ≡ d
     only first true is e = (same_digest_decides first d).0 is
-    only first false is e = absurd (none_some first e)
+    only first false is e = absurd (some_none first e)
 
     by : (c : Option Certificate) → get s.certificates d ≡ c → (f : Option Digest) → get s.firsts slot ≡ f → (get s.firsts slot ≡ Some d) ⊎ IsSome (get s.certificates d)
     by (Some c) is f at = inr (subst IsSome (sym is) refl)

@@ -1,5 +1,5 @@
 -- The slots of a store tell which digests stand, and which authors have digests.
-use Rattle.std.proofs.Common.{◌≡◌, ◌↔◌, ◌⊎◌, ℕ, List, Option, Some, None, IsSome, refl, sym, ap, ◌∙◌, subst}
+use Rattle.std.proofs.Common.{◌≡◌, ◌↔◌, ◌⊎◌, ℕ, List, Option, Some, None, IsSome, sym, ap, ◌∙◌, subst}
 use Rattle.std.specs.Prelude.{Contains}
 use Rattle.std.specs.Ordering.{nat_cmp}
 use Rattle.std.specs.Bool.{Decides}
@@ -11,6 +11,7 @@ use Rattle.nw_codec.specs.declared.certificate.Certificate.{Certificate}
 use Rattle.nw_model.specs.declared.wanted.Wanted.{Wanted}
 use Rattle.nw_rounds.specs.Slots.{AreAuthorsAt, Tables}
 use Rattle.nw_digest.specs.Order.{Slot}
+use Rattle.nw_digest.proofs.Found.{which, is_there}
 use Rattle.nw_model.specs.State.{State, block_slot}
 use Rattle.nw_model.specs.Look.{HasDigest}
 use Rattle.nw_model.specs.Missing.{ListsExactly}
@@ -20,17 +21,10 @@ use Rattle.nw_state.specs.StateTables.{AreStateTables, state_of}
 use Rattle.nw_state.specs.Standing.{IsMet}
 use Rattle.nw_state.proofs.HeldRaised.{certified_slot}
 
-is_there : {X : Type 0} (found : Option X) (x : X) → found ≡ Some x → IsSome found
-is_there found x e = subst IsSome (sym e) refl
-
 -- a found digest is compared with another
 pub named_decides : (found : Option Digest) (d : Digest) → Decides (option_eq same_digest found (Some d)) (found ≡ Some d)
 named_decides None d = (λ e. absurd cc, λ e. absurd cc)
 named_decides (Some x) d = (λ e. ap Some ((same_digest_decides x d).0 e), λ e. (same_digest_decides x d).1 cc)
-
-which : {X : Type 0} (found : Option X) → IsSome found → (x : X) × (found ≡ Some x)
-which None h = absurd cc
-which (Some x) h = (x, refl)
 
 module _ (blocks : List (Digest × Block)) (certificates : List (Digest × Certificate)) (slots : Tables) (floor : ℕ) (held : AreStateTables blocks certificates slots floor) (w : Wanted) where
   abbrev s : State

@@ -7,20 +7,20 @@ use mathlib.Core.List.{IsPrefix}
 use Rattle.nw_model.specs.declared.event.Event.{Event}
 use Rattle.nw_history.specs.Story.{Story, with_event}
 use Rattle.nw_history.specs.Prefix.{IsPrefixOf}
-use Rattle.nw_book.specs.Answer.{DoneView}
-use Rattle.nw_book.specs.Journal.{ArePrefixesOf, AnswersCall, AreAnswers}
+use Rattle.nw_book.specs.Answer.{AnswerView}
+use Rattle.nw_book.specs.Journal.{ArePrefixesOf}
+use Rattle.nw_store.specs.Lock.{AnswersCall, AreAnswers, AreAmong}
 use Rattle.nw_book.proofs.Prefixes.{prefix_itself, prefix_trans, prefix_next}
-use Rattle.nw_store.specs.Lock.{AreAmong}
 
-pub among_longer : (known log : List Story) (answers : List DoneView) → IsPrefix known log → AreAmong known answers → AreAmong log answers
+pub among_longer : (known log : List Story) (answers : List AnswerView) → IsPrefix known log → AreAmong known answers → AreAmong log answers
 among_longer known log answers p among =
-    All-weaker (λ (a : DoneView). Contains known a.front) (λ (a : DoneView). Contains log a.front)
+    All-weaker (λ (a : AnswerView). Contains known a.front) (λ (a : AnswerView). Contains log a.front)
     (λ a c. subst (λ l. Contains l a.front) p.1 (Contains-append_left known p.0 a.front c)) answers among
 
 -- if each front in the log is a prefix of the history, so is the front of each answer, since a known prefix of the log has it
-pub begun_answers : (h : Story) (log known : List Story) (answers : List DoneView) → All (λ f. IsPrefixOf f h) log → IsPrefix known log → AreAmong known answers → ArePrefixesOf h answers
+pub begun_answers : (h : Story) (log known : List Story) (answers : List AnswerView) → All (λ f. IsPrefixOf f h) log → IsPrefix known log → AreAmong known answers → ArePrefixesOf h answers
 begun_answers h log known answers begun p among =
-    All-weaker (λ (a : DoneView). Contains log a.front) (λ (a : DoneView). IsPrefixOf a.front h)
+    All-weaker (λ (a : AnswerView). Contains log a.front) (λ (a : AnswerView). IsPrefixOf a.front h)
     (λ a c. All-contains (λ (f : Story). IsPrefixOf f h) log a.front begun c) answers (among_longer known log answers p among)
 
 -- each front in a known prefix is in the log
@@ -38,6 +38,6 @@ log_more h next e log is begun =
     (All-weaker (λ (f : Story). IsPrefixOf f h) (λ (f : Story). IsPrefixOf f next) (λ f p. prefix_trans f h next p (prefix_next h next e is)) log begun)
     (prefix_itself next)
 
-pub answers_last : (id n : ℕ) (answers : List DoneView) (a : DoneView) → AreAnswers id n answers → AnswersCall id (n + length answers) a → AreAnswers id n (answers ++ a ∷ [])
+pub answers_last : (id n : ℕ) (answers : List AnswerView) (a : AnswerView) → AreAnswers id n answers → AnswersCall id (n + length answers) a → AreAnswers id n (answers ++ a ∷ [])
 answers_last id n [] a h is = (subst (λ k. AnswersCall id k a) (omega arith) is, tt)
 answers_last id n (x ∷ others) a h is = (h.0, answers_last id (n + 1) others a h.1 (subst (λ k. AnswersCall id k a) (omega arith) is))

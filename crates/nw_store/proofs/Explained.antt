@@ -8,7 +8,7 @@ use Rattle.nw_model.specs.declared.reply.Reply.{Reply}
 use Rattle.nw_history.specs.Story.{Story, Origin}
 use Rattle.nw_book.specs.Turn.{IsRefusal}
 use Rattle.nw_book.specs.declared.error.NoStep.{NoStep}
-use Rattle.nw_book.specs.Journal.{Journal, IsHistoryOf, next_number}
+use Rattle.nw_book.specs.Journal.{Journal, IsHistoryOf, next_in_journal}
 use Rattle.nw_book.specs.Answered.{IsAnswered, IsExplained, TakesNoStep}
 
 pub explained : {A E : Type 0} (accepts : Meaning) (origin : Origin) (h : Story) (old new : Journal) (asked : Call) (reply_of : A → Reply) (front_of : A → Story) (r : Result A E)
@@ -17,6 +17,6 @@ explained accepts origin h old new asked reply_of front_of (Ok a) of is = (h, of
 explained accepts origin h old new asked reply_of front_of (Err e) of is = tt
 
 pub unanswered : {A : Type 0} (accepts : Meaning) (origin : Origin) (h : Story) (old : Journal) (under : Option (List Member)) (r : Result A NoStep)
-    → IsHistoryOf accepts origin h → IfErr r (IsRefusal h old.id (next_number old) under) → IfErr r (TakesNoStep accepts origin old under)
+    → IsHistoryOf accepts origin h → IfErr r (IsRefusal h old.id (next_in_journal old) under) → IfErr r (TakesNoStep accepts origin old under)
 unanswered accepts origin h old under (Ok a) of is = tt
 unanswered accepts origin h old under (Err e) of is = (h, of, is)

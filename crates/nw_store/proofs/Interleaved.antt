@@ -1,22 +1,26 @@
 -- Journals whose fronts are prefixes of one history, and which have as many answers as it has events: the history is an interleaving of
 -- them.
-use Rattle.std.proofs.Common.{◌≡◌, ◌≢◌, ℕ, zero, suc, ◌+◌, ◌<◌, ◌≤◌, Bool, true, false, cond, List, [], ◌∷◌, ◌++◌, length, ⊎_elim, refl, sym, ap, ◌∙◌, subst, arith, length-append, Some}
+use Rattle.std.proofs.Common.{◌≡◌, ◌≢◌, ℕ, zero, suc, ◌+◌, ◌<◌, ◌≤◌, Bool, true, false, cond, List, [], ◌∷◌, ◌++◌, length, ⊎_elim, refl, sym, ap, ◌∙◌, subst, arith, Some}
 use Rattle.std.specs.Prelude.{◌==◌, slice_get, All, sum_by}
 use Rattle.std.proofs.lemmas.Bool.{eq-eqb}
 use Rattle.std.proofs.lemmas.Bool.Decides.{eqb_tells}
+use Rattle.std.proofs.lemmas.List.{length-map}
 use Rattle.std.proofs.lemmas.List.Sums.{sum_by-cons}
 use Rattle.std.proofs.lemmas.List.Elements.{All-nil, All-cons}
 use mathlib.Core.List.{IsPrefix}
 use Rattle.nw_model.specs.declared.event.Event.{Event}
 use Rattle.nw_model.specs.History.{events_of, AreNumbered}
 use Rattle.nw_history.specs.Story.{Story}
-use Rattle.nw_book.specs.Answer.{DoneView}
-use Rattle.nw_book.specs.Journal.{Guarded, Journal, ArePrefixesOf, AreAnswers}
-use Rattle.nw_book.specs.Settled.{events_in, AreInOrder, AreSettled, AreAllComparable}
-use Rattle.nw_book.proofs.Prefixes.{comparable}
+use Rattle.nw_history.proofs.Prefixes.{no_longer}
+use Rattle.nw_book.specs.Answer.{AnswerView}
+use Rattle.nw_book.specs.Journal.{Journal, ArePrefixesOf}
+use Rattle.nw_store.specs.Lock.{Guarded, AreAnswers}
+use Rattle.nw_book.specs.Settled.{events_in, AreSettled}
+use Rattle.nw_store.specs.Settled.{AreInOrder, AreAllComparable}
+use Rattle.nw_book.proofs.Prefixes.{comparable, prefix_whole}
 
 -- the events of each front are a prefix of these events
-abbrev AreBegunBy : List Event → List DoneView → Type 0
+abbrev AreBegunBy : List Event → List AnswerView → Type 0
 AreBegunBy h answers = All (λ a. IsPrefix a.front.events h) answers
 
 -- the sum of f over the numbers below n
@@ -30,7 +34,7 @@ AreBelow made [] = Unit {0}
 AreBelow made (e ∷ es) = (e.session < made) × AreBelow made es
 
 -- the answers of the journal at this place
-abbrev answers_at : List Journal → ℕ → List DoneView
+abbrev answers_at : List Journal → ℕ → List AnswerView
 answers_at [] s = []
 answers_at (j ∷ js) zero = j.answers
 answers_at (j ∷ js) (suc s) = answers_at js s
@@ -60,7 +64,7 @@ numbered_at n (x ∷ es) zero e h at = let same : x ≡ e = cc (at) in omega (ar
 numbered_at n (x ∷ es) (suc j) e h at = let r = numbered_at (n + 1) es j e h.1 at in omega (arith, r)
 
 -- each answer's event is among the session's events, at the place that its number says
-places : (s m : ℕ) (answers : List DoneView) (h : List Event) → AreNumbered 1 (events_of s h) → AreAnswers s (m + 1) answers → AreBegunBy h answers
+places : (s m : ℕ) (answers : List AnswerView) (h : List Event) → AreNumbered 1 (events_of s h) → AreAnswers s (m + 1) answers → AreBegunBy h answers
     → (k : ℕ) (x : Event) → slice_get (events_in answers) k ≡ Some x → slice_get (events_of s h) (m + k) ≡ Some x
 places s m [] h numbered are begun k x at = absurd (cc (at))
 places s m (e ∷ es) h numbered are begun zero x at =
@@ -82,15 +86,6 @@ prefix_of_places (x ∷ xs) (y ∷ ys) h =
     let heads : y ≡ x = cc (h zero x refl) in
     let rest = prefix_of_places xs ys (λ k z e. h (suc k) z e) in
     (rest.0, cc (heads, rest.1))
-
-prefix_length : (xs ys : List Event) → IsPrefix xs ys → length xs ≤ length ys
-prefix_length xs ys p = omega (arith, sym (ap length p.1) ∙ length-append xs p.0)
-
-prefix_whole : (xs ys : List Event) → IsPrefix xs ys → length ys ≤ length xs → ys ≡ xs
-prefix_whole [] [] p le = refl
-prefix_whole [] (y ∷ ys) p le = absurd (omega arith)
-prefix_whole (x ∷ xs) [] p le = absurd (cc (p.1))
-prefix_whole (x ∷ xs) (y ∷ ys) p le = let rest = prefix_whole xs ys (p.0, cc (p.1)) (omega arith) in cc (p.1, rest)
 
 sum_both : (f g : ℕ → ℕ) (n : ℕ) → sum_upto (λ s. f s + g s) n ≡ sum_upto f n + sum_upto g n
 sum_both f g zero = refl
@@ -187,25 +182,21 @@ all_below : (made : ℕ) (h : List Event) → all_outside h made ≡ 0 → AreBe
 all_below made [] z = tt
 all_below made (e ∷ es) z = (is_below e.session made (omega (arith, z)), all_below made es (omega (arith, z)))
 
-length_events_in : (es : List DoneView) → length (events_in es) ≡ length es
-length_events_in [] = refl
-length_events_in (e ∷ es) = let r = length_events_in es in omega (arith, r)
-
 zero_plus : (k : ℕ) → 0 + k ≡ k
 zero_plus k = omega arith
 
-settled : (made : ℕ) (h : List Event) (journal : ℕ → List DoneView) → ((s : ℕ) → AreNumbered 1 (events_of s h))
+settled : (made : ℕ) (h : List Event) (journal : ℕ → List AnswerView) → ((s : ℕ) → AreNumbered 1 (events_of s h))
     → ((s : ℕ) → s < made → AreAnswers s 1 (journal s) × AreBegunBy h (journal s)) → sum_upto (λ s. length (journal s)) made ≡ length h
     → ((s : ℕ) → s < made → events_of s h ≡ events_in (journal s)) × AreBelow made h
 settled made h journal numbered each sum =
     let begins : (s : ℕ) → s < made → IsPrefix (events_in (journal s)) (events_of s h) = λ s lt. prefix_of_places (events_in (journal s)) (events_of s h) (λ k x at. subst (λ j. slice_get (events_of s h) j ≡ Some x) (zero_plus k) (places s 0 (journal s) h (numbered s) (each s lt).0 (each s lt).1 k x at)) in
     let f : ℕ → ℕ = λ s. length (journal s) in
     let g : ℕ → ℕ = λ s. length (events_of s h) in
-    let fewer : (s : ℕ) → s < made → f s ≤ g s = λ s lt. (let p = prefix_length (events_in (journal s)) (events_of s h) (begins s lt) in let q = length_events_in (journal s) in omega (arith, p, q)) in
+    let fewer : (s : ℕ) → s < made → f s ≤ g s = λ s lt. (let p = no_longer (events_in (journal s)) (events_of s h) (begins s lt) in let q = length-map (journal s) (λ (a : AnswerView). a.event) in omega (arith, p, q)) in
     let all = all_counted made h in
     let less = sum_less f g made fewer in
     let equal = squeezed f g made fewer (omega (arith, all, sum)) in (
-      (λ s lt. prefix_whole (events_in (journal s)) (events_of s h) (begins s lt) (let q = length_events_in (journal s) in let e = equal s lt in omega (arith, q, e))),
+      (λ s lt. sym (prefix_whole (events_in (journal s)) (events_of s h) (begins s lt) (let q = length-map (journal s) (λ (a : AnswerView). a.event) in let e = equal s lt in omega (arith, q, e)))),
       all_below made h (omega (arith, all, less, sum)),
     )
 

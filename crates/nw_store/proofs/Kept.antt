@@ -9,15 +9,15 @@ use Rattle.nw_model.specs.declared.event.Event.{Event}
 use Rattle.nw_history.specs.Limits.{AreInRange}
 use Rattle.nw_history.specs.Story.{Story, Origin, IsLegalStory, with_event}
 use Rattle.nw_history.specs.Prefix.{IsPrefixOf}
-use Rattle.nw_book.specs.Answer.{DoneView}
-use Rattle.nw_book.specs.Journal.{Journal, AnswersCall, AreAnswers, origin_of}
-use Rattle.nw_store.specs.Lock.{AreAmong, IsLockInvariant, IsSession}
+use Rattle.nw_book.specs.Answer.{AnswerView}
+use Rattle.nw_book.specs.Journal.{Journal, origin_of}
+use Rattle.nw_store.specs.Lock.{AnswersCall, AreAnswers, AreAmong, IsLocked, IsSession}
 use Rattle.nw_store.proofs.Begun.{among_longer, log_more, answers_last}
 
 pub kept_more : (accepts : Meaning) (h next front : Story) (made total more spare idle : ℕ) (log longer : List Story) (e : Event)
-    → IsLockInvariant accepts (record { history = h; made = made }) total spare idle log
+    → IsLocked accepts (record { history = h; made = made }) total spare idle log
     → next ≡ with_event h e → IsLegalStory accepts next → front ≡ next → more ≡ total + 1 → longer ≡ log ++ front ∷ []
-    → IsLockInvariant accepts (record { history = next; made = made }) more spare idle longer
+    → IsLocked accepts (record { history = next; made = made }) more spare idle longer
 kept_more accepts h next front made total more spare idle log longer e kept is legal front_is one adds = record {
   in_range = subst (λ (s : Story). AreInRange s.limits) (sym is) kept.in_range;
   legal = legal;
@@ -33,7 +33,7 @@ pub starts_so : (h next : Story) (e : Event) (o : Origin) → next ≡ with_even
 starts_so h next e o is starts = ap origin_of is ∙ starts
 
 -- the session with one more answer, whose front is in its known prefix
-pub session_more : (id parts same amount more : ℕ) (known longer : List Story) (answers after : List DoneView) (a : DoneView)
+pub session_more : (id parts same amount more : ℕ) (known longer : List Story) (answers after : List AnswerView) (a : AnswerView)
     → IsSession parts amount (record { id = id; answers = answers; known = known })
     → same ≡ parts → more ≡ amount + 1 → IsPrefix known longer → Contains longer a.front → after ≡ answers ++ a ∷ [] → AnswersCall id (1 + length answers) a
     → IsSession same more (record { id = id; answers = after; known = longer })
@@ -41,11 +41,11 @@ session_more id parts same amount more known longer answers after a s part one p
   id_below = s.id_below;
   part = part ∙ s.part;
   counted = one ∙ (ap (λ n. n + 1) s.counted ∙ sym (ap length items ∙ length-append answers (a ∷ [])));
-  answers_known = subst (λ l. AreAmong longer l) (sym items) (All-push (λ (x : DoneView). Contains longer x.front) answers a (among_longer known longer answers p s.answers_known) among);
+  answers_known = subst (λ l. AreAmong longer l) (sym items) (All-push (λ (x : AnswerView). Contains longer x.front) answers a (among_longer known longer answers p s.answers_known) among);
   numbered = subst (λ l. AreAnswers id 1 l) (sym items) (answers_last id 1 answers a s.numbered is);
 }
 
-pub answer_is : (id number : ℕ) (h front : Story) (e : Event) (a : DoneView) → front ≡ with_event h e → e.session ≡ id → e.number ≡ number → a.front ≡ front → a.event ≡ e → AnswersCall id number a
+pub answer_is : (id number : ℕ) (h front : Story) (e : Event) (a : AnswerView) → front ≡ with_event h e → e.session ≡ id → e.number ≡ number → a.front ≡ front → a.event ≡ e → AnswersCall id number a
 answer_is id number h front e a is session number_is same event = record {
   session = ap (λ (x : Event). x.session) event ∙ session;
   number_is = ap (λ (x : Event). x.number) event ∙ number_is;
@@ -68,8 +68,8 @@ session_renewed parts amount log longer j s p is = record {
 }
 
 -- the lock after one more session is made, which has one of the spare parts
-pub kept_made : (accepts : Meaning) (h : Story) (made total spare left idle none : ℕ) (log same : List Story) → IsLockInvariant accepts (record { history = h; made = made }) total spare idle log
-    → made < h.limits.sessions → left + 1 ≡ spare → none + 0 ≡ idle → same ≡ log → IsLockInvariant accepts (record { history = h; made = made + 1 }) total left none same
+pub kept_made : (accepts : Meaning) (h : Story) (made total spare left idle none : ℕ) (log same : List Story) → IsLocked accepts (record { history = h; made = made }) total spare idle log
+    → made < h.limits.sessions → left + 1 ≡ spare → none + 0 ≡ idle → same ≡ log → IsLocked accepts (record { history = h; made = made + 1 }) total left none same
 kept_made accepts h made total spare left idle none log same kept room parts amount is =
     let shared = kept.shared in
     let unused = kept.unused in record {

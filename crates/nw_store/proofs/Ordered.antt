@@ -7,8 +7,9 @@ use Rattle.std.specs.List.Sorted.{IsPermutation, IsNonDecreasingBy}
 use Rattle.std.proofs.lemmas.Bool.Decides.{eqb_tells, leb_tells}
 use Rattle.std.proofs.lemmas.List.Sums.{sum_by-cons}
 use Rattle.std.proofs.lemmas.List.Sorted.{IsPermutation-map, IsPermutation-refl, length_permutation, sum_by-IsPermutation}
-use Rattle.nw_book.specs.Journal.{Guarded, Journal}
-use Rattle.nw_book.specs.Settled.{AreInOrder, AreAllSessions, ids_of}
+use Rattle.nw_book.specs.Journal.{Journal}
+use Rattle.nw_store.specs.Lock.{Guarded}
+use Rattle.nw_store.specs.Settled.{AreInOrder, AreAllSessions, ids_of}
 use Rattle.nw_store.specs.Fault.{IsStray, times}
 
 abbrev one : ℕ → ℕ → ℕ

@@ -1,8 +1,9 @@
 -- Why sessions do not settle.
 use Rattle.std.specs.Prelude.{◌≡◌, ℕ, ◌==◌, ◌<◌, ◌≤◌, List, length, count_by, sum_by}
 use mathlib.Core.Logic.{◌⊎◌}
-use Rattle.nw_book.specs.Journal.{Guarded, Journal}
-use Rattle.nw_book.specs.Settled.{ids_of}
+use Rattle.nw_book.specs.Journal.{Journal}
+use Rattle.nw_store.specs.Lock.{Guarded}
+use Rattle.nw_store.specs.Settled.{ids_of}
 use Rattle.nw_store.specs.declared.error.SettleFault.{SettleFault}
 use Rattle.nw_store.specs.declared.error.SettleFault.TheVariants as faults
 

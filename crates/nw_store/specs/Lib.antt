@@ -2,3 +2,5 @@ pub mod Journal
 pub mod Lock
 pub mod Looks
 pub mod Fault
+pub mod Laws
+pub mod Settled

@@ -1,24 +1,32 @@
--- Invariants of a store's lock and of its sessions.
-use Rattle.std.specs.Prelude.{◌≡◌, ℕ, ◌+◌, ◌<◌, ◌≤◌, List, length, All}
+-- The value under a store's lock, and the invariants of the lock and of its sessions.
+use Rattle.std.specs.Prelude.{◌≡◌, ℕ, ◌+◌, ◌<◌, ◌≤◌, List, [], ◌∷◌, ◌++◌, length, All}
 use Rattle.std.specs.List.{Contains}
 use Rattle.nw_sig.specs.Signed.{Meaning}
+use Rattle.nw_model.specs.declared.event.Event.{Event}
 use Rattle.nw_history.specs.Limits.{AreInRange, most_sessions}
 use Rattle.nw_history.specs.Story.{Story, IsLegalStory}
 use Rattle.nw_history.specs.Prefix.{IsPrefixOf}
-use Rattle.nw_book.specs.Answer.{DoneView}
-use Rattle.nw_book.specs.Journal.{Guarded, Journal, AreAnswers}
+use Rattle.nw_book.specs.Answer.{AnswerView}
+use Rattle.nw_book.specs.Journal.{Journal}
+
+-- the value under a store's lock, as contracts see it
+pub record Guarded : Type 0 where
+  -- the history so far
+  pub history : Story
+  -- the number of sessions made so far
+  pub made : ℕ
 
 -- the number of parts of a store's ledger: one for each possible session, and one more
 abbrev pub parts_of_a_ledger : ℕ
 parts_of_a_ledger = most_sessions + 1
 
 -- the front of each answer is one of these fronts
-abbrev pub AreAmong : List Story → List DoneView → Type 0
+abbrev pub AreAmong : List Story → List AnswerView → Type 0
 AreAmong fronts answers = All (λ a. Contains fronts a.front) answers
 
 -- the invariant of the lock: `total` is what the ledger counts, `spare` the number of its spare parts, `idle` what these count, and
 -- `log` the fronts that the store handed out
-pub record IsLockInvariant (accepts : Meaning) (held : Guarded) (total spare idle : ℕ) (log : List Story) : Type 0 where
+pub record IsLocked (accepts : Meaning) (held : Guarded) (total spare idle : ℕ) (log : List Story) : Type 0 where
   -- the limits are in their ranges
   pub in_range : AreInRange held.history.limits
   -- the history is legal
@@ -33,6 +41,20 @@ pub record IsLockInvariant (accepts : Meaning) (held : Guarded) (total spare idl
   pub counted : total ≡ length held.history.events
   -- each front in the log is a prefix of the history
   pub begun : All (λ front. IsPrefixOf front held.history) log
+
+-- the answer is to this session's call with this number
+pub record AnswersCall (id number : ℕ) (a : AnswerView) : Type 0 where
+  -- the event has the session's number
+  pub session : a.event.session ≡ id
+  -- the event has the call's number
+  pub number_is : a.event.number ≡ number
+  -- the front ends with the event
+  pub last : (earlier : List Event) × (a.front.events ≡ earlier ++ a.event ∷ [])
+
+-- the answers are to this session's calls, numbered from n on
+abbrev pub AreAnswers : ℕ → ℕ → List AnswerView → Type 0
+AreAnswers id n [] = Unit {0}
+AreAnswers id n (a ∷ others) = AnswersCall id n a × AreAnswers id (n + 1) others
 
 -- the invariant of a session, which has `parts` parts of the ledger that count `amount` calls
 pub record IsSession (parts amount : ℕ) (j : Journal) : Type 0 where

@@ -6,7 +6,7 @@ ghost use Rattle.nw_history.specs.Story.{IsLegalStory};
 ghost use Rattle.nw_book.specs.Answer.{IsTicketFor, front_of, reply_of};
 ghost use Rattle.nw_book.specs.Command.{IsNoCausalRead, call_of, committee_of};
 ghost use Rattle.nw_book.specs.Turn.{HasRoom, IsInTurn, IsRefusal, MayStep};
-ghost use Rattle.nw_book.specs.Journal.{next_number, origin_of};
+ghost use Rattle.nw_book.specs.Journal.{next_in_journal, origin_of};
 ghost use Rattle.nw_book.specs.Answered.{IsAnswered};
 
 use crate::session::Session;
@@ -39,9 +39,9 @@ pub fn call_locked<S: Scheme, L: Home>(
     ensures history { IfOk result (λ done.
         locked.new ≡ record { history = done.front; made = locked.old.made }) }
     ensures may { OnOk result (MayStep locked.old.history session.old.id
-        (next_number session.old) (committee_of command.now)) }
+        (next_in_journal session.old) (committee_of command.now)) }
     ensures refused { IfErr result (IsRefusal locked.old.history session.old.id
-        (next_number session.old) (committee_of command.now)) }
+        (next_in_journal session.old) (committee_of command.now)) }
     ensures unchanged { OnErr result (locked.new ≡ locked.old) }
     ensures session { OnErr result (session.new ≡ session.old) }
 {
@@ -72,9 +72,9 @@ pub fn open_locked<S: Scheme, L: Home>(
     ensures history { IfOk result (λ answer.
         locked.new ≡ record { history = front_of answer; made = locked.old.made }) }
     ensures may { OnOk result
-        (MayStep locked.old.history session.old.id (next_number session.old) None) }
+        (MayStep locked.old.history session.old.id (next_in_journal session.old) None) }
     ensures refused { IfErr result
-        (IsRefusal locked.old.history session.old.id (next_number session.old) None) }
+        (IsRefusal locked.old.history session.old.id (next_in_journal session.old) None) }
     ensures unchanged { OnErr result (locked.new ≡ locked.old) }
     ensures session { OnErr result (session.new ≡ session.old) }
 {
@@ -89,13 +89,13 @@ fn may_call<S: Scheme, L: Home>(
     session: &mut Session<S, L>,
     under: Option<&Committee>,
 ) -> Result<u32, NoStep>
-    ensures number { IfOk result (λ number. number ≡ next_number session.old) }
+    ensures number { IfOk result (λ number. number ≡ next_in_journal session.old) }
     ensures starts { origin_of locked.old.history ≡ L.origin }
     ensures legal { IsLegalStory S.accepts locked.old.history }
     ensures may { OnOk result (MayStep locked.old.history session.old.id
-        (next_number session.old) (option_copied under.entry)) }
+        (next_in_journal session.old) (option_copied under.entry)) }
     ensures refused { IfErr result (IsRefusal locked.old.history session.old.id
-        (next_number session.old) (option_copied under.entry)) }
+        (next_in_journal session.old) (option_copied under.entry)) }
     ensures same { locked.new ≡ locked.old }
     ensures session { session.new ≡ session.old }
 {
@@ -117,8 +117,8 @@ fn take_call<S: Scheme, L: Home>(
     call: Call,
 ) -> Result<Done<S>, NoMemory>
     requires no_read { IsNoCausalRead call }
-    requires number { number ≡ next_number session.old }
-    requires turn { IsInTurn locked.old.history session.old.id (next_number session.old) }
+    requires number { number ≡ next_in_journal session.old }
+    requires turn { IsInTurn locked.old.history session.old.id (next_in_journal session.old) }
     requires admitted { IsAdmitted S.accepts locked.old.history.committee call }
     requires room { HasRoom locked.old.history }
     ensures answered { IfOk result (λ done. IsAnswered S.accepts locked.old.history session.old
@@ -145,8 +145,8 @@ fn take_open<S: Scheme, L: Home>(
     number: u32,
     digest: Digest,
 ) -> Result<Result<Ticket<S>, Done<S>>, NoMemory>
-    requires number { number ≡ next_number session.old }
-    requires turn { IsInTurn locked.old.history session.old.id (next_number session.old) }
+    requires number { number ≡ next_in_journal session.old }
+    requires turn { IsInTurn locked.old.history session.old.id (next_in_journal session.old) }
     requires room { HasRoom locked.old.history }
     ensures answered { IfOk result (λ answer. IsAnswered S.accepts locked.old.history session.old
         session.new (Call.Causal digest) (reply_of answer) (front_of answer)) }

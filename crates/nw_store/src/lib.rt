@@ -30,8 +30,8 @@ pub use locked::{
 pub use notes::{Note, hear_locked, note_locked, notes_carry_order};
 pub use nw_book::{
     Agreement, Base, Block, Book, BookError, Call, CheckedBlock, CheckedCert, Command, Committee,
-    Digest, Done, Entry, Event, Front, History, Limits, MAX_BLOCKS, MAX_EVENTS, MAX_SESSIONS,
-    MAX_WINDOW, NoMemory, NoStep, Reply, Round, Scheme, Sequence, Shared, Ticket, View,
+    Digest, Done, Entry, Event, Front, Limits, MAX_BLOCKS, MAX_EVENTS, MAX_SESSIONS, MAX_WINDOW,
+    NoMemory, NoStep, Reply, Round, Scheme, Sequence, Shared, Ticket, View,
 };
 pub use opening::Opening;
 pub use session::Session;

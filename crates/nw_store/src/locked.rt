@@ -3,17 +3,17 @@ ghost use Rattle.std.specs.Prelude.{◌≡◌, ◌↔◌, ◌+◌, ◌<◌, ◌�
 ghost use Rattle.std.specs.Prelude.{IsErr, IfOk, IfErr, OnOk, OnErr};
 ghost use mathlib.Core.List.{IsPrefix};
 ghost use Rattle.nw_history.specs.Limits.{AreInRange, most_events, most_sessions};
-ghost use Rattle.nw_model.specs.Look.{AreLooks, IsLook};
+ghost use Rattle.nw_model.specs.Look.{AreLooks};
 ghost use Rattle.nw_history.specs.Story.{IsLegalStory, reopened, state_of};
-ghost use Rattle.nw_book.specs.Journal.{ArePrefixesOf, AreComparable, AreAnswers, origin_of};
-ghost use Rattle.nw_book.specs.Answered.{IsSeen};
-ghost use Rattle.nw_store.specs.Lock.{parts_of_a_ledger};
-ghost use Rattle.nw_store.specs.Looks.{AreSeen};
+ghost use Rattle.nw_book.specs.Journal.{ArePrefixesOf, AreComparable, origin_of};
+ghost use Rattle.nw_store.specs.Lock.{AreAnswers, parts_of_a_ledger};
+ghost use Rattle.nw_book.specs.Answered.{IsLookAfter};
+ghost use Rattle.nw_store.specs.Looks.{AreSeen, IsSeen};
 
 use crate::opening::Opening;
 use crate::session::Session;
 use crate::{Home, TooMany};
-use nw_book::{Book, Front, History};
+use nw_book::{Book, Front};
 use nw_digest::{NoMemory, Round};
 use nw_log::{KnownPrefix, LogOwner};
 use nw_model::Look;
@@ -85,8 +85,8 @@ impl<S: Scheme, L: Home> Model for Locked<S, L> {
     ghost use Rattle.std.specs.Prelude.{◌≡◌};
     ghost use Rattle.std.specs.Coded.{codes};
     ghost use Rattle.nw_model.specs.State.{coded_state};
-    ghost use Rattle.nw_book.specs.Journal.{Guarded, origin_of};
-    ghost use Rattle.nw_store.specs.Lock.{IsLockInvariant, parts_of_a_ledger};
+    ghost use Rattle.nw_book.specs.Journal.{origin_of};
+    ghost use Rattle.nw_store.specs.Lock.{Guarded, IsLocked, parts_of_a_ledger};
 
     ghost Value = { Guarded };
 
@@ -95,7 +95,7 @@ impl<S: Scheme, L: Home> Model for Locked<S, L> {
     ghost view = { λ l. record { history = l.book; made = l.made } };
 
     ghost invariant = { λ l. (L.parts ≡ parts_of_a_ledger)
-        × IsLockInvariant S.accepts (record { history = l.book; made = l.made }) l.count.calls.total
+        × IsLocked S.accepts (record { history = l.book; made = l.made }) l.count.calls.total
         l.spare.parts l.spare.amount l.count.owner × (origin_of l.book ≡ L.origin) };
 }
 
@@ -122,7 +122,7 @@ impl<S: Scheme, L: Home> Locked<S, L> {
     }
 
     /// The history so far.
-    pub fn history(&self) -> &History<S>
+    pub fn history(&self) -> &Front<S>
         ensures history { result.now ≡ self.now.history }
         ensures starts { origin_of self.now.history ≡ L.origin }
         ensures legal { IsLegalStory S.accepts self.now.history }
@@ -189,7 +189,7 @@ pub fn compact_locked<S: Scheme, L: Home>(
 /// What the state after the history has in the slot of this round and author, for a caller that holds the lock. This is no call, and
 /// allocates nothing.
 pub fn look_locked<S: Scheme, L: Home>(locked: &Locked<S, L>, round: Round, author: u16) -> Look
-    ensures look { IsLook (state_of locked.now.history) (round, author) result }
+    ensures look { IsLookAfter locked.now.history (round, author) result }
     ensures seen { IsSeen S.accepts L.origin (round, author) result }
 {
     locked.book.look(round, author)

@@ -1,7 +1,6 @@
 //! Looks at the tables of a store.
 ghost use Rattle.std.specs.Prelude.{IfOk};
-ghost use Rattle.nw_book.specs.Answered.{IsSeen};
-ghost use Rattle.nw_store.specs.Looks.{AreSeen};
+ghost use Rattle.nw_store.specs.Looks.{AreSeen, IsSeen};
 
 use crate::locked::{look_locked, look_round_locked};
 use crate::{Home, Store};

@@ -1,7 +1,7 @@
 //! Notes: they carry what one session knows to another session.
 ghost use Rattle.std.specs.Prelude.{◌≡◌};
 ghost use Rattle.nw_book.specs.Journal.{KnowsAll};
-ghost use Rattle.nw_book.specs.Laws.{NotesCarryOrder};
+ghost use Rattle.nw_store.specs.Laws.{NotesCarryOrder};
 
 use crate::{Home, Locked, Session};
 use nw_book::Front;

@@ -5,14 +5,15 @@ ghost use Rattle.std.specs.Prelude.{All, Some, length, slice_get, sum_by};
 ghost use Rattle.std.specs.List.Sorted.{IsPermutation, IsNonDecreasingBy};
 ghost use Rattle.nw_history.specs.Story.{IsLegalStory, reopened};
 ghost use Rattle.nw_history.specs.Limits.{most_sessions};
-ghost use Rattle.nw_book.specs.Journal.{Journal, ArePrefixesOf, AreAnswers, origin_of};
-ghost use Rattle.nw_book.specs.Settled.{AreAllSessions, AreAllComparable, AreSettled};
+ghost use Rattle.nw_book.specs.Journal.{Journal, ArePrefixesOf, origin_of};
+ghost use Rattle.nw_store.specs.Lock.{AreAnswers};
+ghost use Rattle.nw_book.specs.Settled.{AreSettled};
+ghost use Rattle.nw_store.specs.Settled.{AreAllSessions, AreAllComparable, ids_of};
 ghost use Rattle.nw_store.specs.Fault.{IsFault, IsFirstStray, IsStray};
-ghost use Rattle.nw_book.specs.Settled.{ids_of};
 
 use crate::locked::check_journal_locked;
 use crate::{Home, Locked, Session, SettleFault, Store};
-use nw_book::{Book, Entry, History, MAX_SESSIONS};
+use nw_book::{Book, Entry, Front, MAX_SESSIONS};
 use nw_digest::NoMemory;
 use nw_sig::Scheme;
 use std::alloc::Global;
@@ -31,7 +32,8 @@ pub struct Settled<S: Scheme, L: Home> {
 impl<S: Scheme, L: Home> Model for Settled<S, L> {
     ghost use Rattle.std.specs.Coded.{codes};
     ghost use Rattle.nw_model.specs.State.{coded_state};
-    ghost use Rattle.nw_book.specs.Settled.{Settlement, AreAllSessions, AreSettled};
+    ghost use Rattle.nw_book.specs.Settled.{AreSettled};
+    ghost use Rattle.nw_store.specs.Settled.{Settlement, AreAllSessions};
 
     ghost Value = { Settlement };
 
@@ -47,7 +49,7 @@ impl<S: Scheme, L: Home> Model for Settled<S, L> {
 impl<S: Scheme, L: Home> Settled<S, L> {
     /// The history, which is an interleaving of the journals of all sessions and has the store's origin. Of any two answers in the
     /// journals, one's front is a prefix of the other's.
-    pub fn history(&self) -> &History<S>
+    pub fn history(&self) -> &Front<S>
         ensures history { result.now ≡ self.now.history }
         ensures all { AreAllSessions self.now.made self.now.journals }
         ensures settled { AreSettled self.now.history self.now.journals }
@@ -86,7 +88,7 @@ impl<S: Scheme, L: Home> Settled<S, L> {
     }
 }
 
-/// Settles the sessions with the value that was under the lock. Succeeds exactly if they are all that the store made, each once, in any
+/// Settles the sessions with the value that was under the lock. Succeeds exactly when they are all that the store made, each once, in any
 /// order. Compares no events, and allocates nothing.
 ///
 /// The error returns everything unchanged, with the first of these faults that applies:

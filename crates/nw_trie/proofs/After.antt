@@ -10,11 +10,12 @@ use Rattle.std.specs.Ordering.{is_eq, ordering_reverse}
 use denote.Bor.{Bor}
 use Rattle.nw_digest.specs.declared.digest.Digest.{Digest}
 use Rattle.nw_digest.specs.Order.{digest_cmp}
+use Rattle.nw_digest.proofs.Maps.{digests_total}
 use Rattle.nw_trie.specs.Bits.{bit_of}
 use Rattle.nw_trie.specs.Entries.{AreEntries, EachKey, HasKey}
 use Rattle.nw_trie.specs.After.{IsNextIn, after, first_entry, entries_from}
 use Rattle.nw_trie.proofs.Sides.{AtFork, not_left}
-use Rattle.nw_trie.proofs.Inserts.{below_all, digest_equal, digests_total}
+use Rattle.nw_trie.proofs.Inserts.{below_all, digest_equal}
 use Rattle.nw_trie.proofs.Grafts.{key_left}
 
 pub here : (k x : Digest) → x ≡ k → is_at (digest_cmp k) x ≡ true

@@ -13,12 +13,13 @@ use Rattle.nw_trie.specs.declared.tree.Link.{Link}
 use Rattle.nw_trie.specs.declared.tree.Link.TheVariants.{Empty, Leaf, Fork}
 use Rattle.nw_trie.specs.declared.tree.Sides.{Sides}
 use Rattle.nw_digest.specs.Order.{digest_cmp}
+use Rattle.nw_digest.proofs.Maps.{digests_total}
 use Rattle.nw_trie.specs.Bits.{AgreeBelow, AgreeButLast, bit_of}
 use Rattle.nw_trie.specs.Entries.{EachKey, HasKey, IsFork}
 use Rattle.nw_trie.specs.Tree.{side_of}
 use Rattle.nw_trie.proofs.DigestBits.{one_digest}
 use Rattle.nw_trie.proofs.Keys.{each_left, each_right, each_more, each_pair, some_of_each}
-use Rattle.nw_trie.proofs.Inserts.{below_all, digest_equal, digests_total}
+use Rattle.nw_trie.proofs.Inserts.{below_all, digest_equal}
 use Rattle.nw_trie.proofs.Sides.{AtFork, lookup_left, lookup_right}
 use Rattle.nw_trie.proofs.Grafts.{fits_key, key_left, key_right}
 

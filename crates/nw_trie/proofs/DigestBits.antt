@@ -32,12 +32,6 @@ first_bits x xs j h =
 no_bits : (n : ℕ) → list_bit [] n ≡ false
 no_bits n = rw Rattle.std.proofs.Math.Nat.zero-div refl
 
-less : (x y : ℕ) → x < y → nat_cmp x y ≡ Less
-less x y h = sym (nat_cmp_is x y Less h)
-
-equal : (x : ℕ) → nat_cmp x x ≡ Equal
-equal x = sym (nat_cmp_is x x Equal refl)
-
 -- of two lists of bytes, the one with an unset bit at the first difference comes first
 pub bits_order : (xs ys : List ℕ) (i : ℕ) → AreBytes xs → AreBytes ys → ((j : ℕ) → j < i → list_bit xs j ≡ list_bit ys j) → list_bit xs i ≡ false → list_bit ys i ≡ true → slice_cmp nat_cmp xs ys ≡ Less
 bits_order [] [] i hx hy same unset set = let e : false ≡ true = sym unset ∙ set in cc
@@ -47,7 +41,7 @@ bits_order (x ∷ xs) (y ∷ ys) i hx hy same unset set =
     elim (cases_lt i 8) [
       | inl inside ↦
           let below : x < y = smaller_byte x y i hx.0 hy.0 inside (λ j h. sym (first_bits x xs j (omega arith)) ∙ same j h ∙ first_bits y ys j (omega arith)) (sym (first_bits x xs i inside) ∙ unset) (sym (first_bits y ys i inside) ∙ set) in
-          ap (λ o. ordering_then o (slice_cmp nat_cmp xs ys)) (less x y below)
+          ap (λ o. ordering_then o (slice_cmp nat_cmp xs ys)) (sym (nat_cmp_is x y Less below))
       | inr past ↦
           let at : i - 8 + 8 ≡ i = omega arith in
           let byte : x ≡ y = same_byte x y hx.0 hy.0 (λ j h. sym (first_bits x xs j h) ∙ same j (omega arith) ∙ first_bits y ys j h) in
@@ -55,7 +49,7 @@ bits_order (x ∷ xs) (y ∷ ys) i hx hy same unset set =
           let set_there : list_bit (y ∷ ys) (i - 8 + 8) ≡ true = rw at set in
           let rest : slice_cmp nat_cmp xs ys ≡ Less =
           bits_order xs ys (i - 8) hx.1 hy.1 (λ j h. sym (later_bits x xs j) ∙ same (j + 8) (omega arith) ∙ later_bits y ys j) (sym (later_bits x xs (i - 8)) ∙ unset_there) (sym (later_bits y ys (i - 8)) ∙ set_there) in
-          rw byte (ap (λ o. ordering_then o (slice_cmp nat_cmp xs ys)) (equal y) ∙ rest)
+          rw byte (ap (λ o. ordering_then o (slice_cmp nat_cmp xs ys)) (sym (nat_cmp_is y y Equal refl)) ∙ rest)
     ]
 
 -- the same for digests

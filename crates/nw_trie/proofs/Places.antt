@@ -1,5 +1,5 @@
 -- Digests and their places among many trees.
-use Rattle.std.proofs.Common.{◌≡◌, ◌∙◌, inl, inr, ℕ, zero, suc, ◌+◌, ◌-◌, ◌*◌, ◌^◌, ◌<◌, ◌≤◌, Bool, true, false, cond, List, [], ◌∷◌, ◌++◌, Option, Some, None, length, refl, sym, ap, subst, arith, get_or, slice_set, append_assoc, append-nil, length-append}
+use Rattle.std.proofs.Common.{◌≡◌, ◌∙◌, inl, inr, ℕ, zero, suc, ◌+◌, ◌-◌, ◌*◌, ◌<◌, ◌≤◌, Bool, true, false, cond, List, [], ◌∷◌, ◌++◌, None, length, refl, sym, ap, subst, arith, get_or, slice_set, append_assoc, append-nil, length-append}
 use Rattle.std.proofs.lemmas.Bool.{cases_lt}
 use Rattle.std.specs.Map.{lookup, remove_entry}
 use Rattle.std.specs.BTreeMap.{insert_entry, is_at}
@@ -7,12 +7,13 @@ use Rattle.std.specs.Ordering.{ordering_reverse}
 use Rattle.std.specs.declared.cmp.Ordering.TheVariants.{Less, Greater}
 use Rattle.nw_digest.specs.declared.digest.Digest.{Digest}
 use Rattle.nw_digest.specs.Order.{digest_cmp}
+use Rattle.nw_digest.proofs.Maps.{digests_total}
 use Rattle.nw_trie.specs.Bits.{AgreeBelow, AreBytes, bit_of}
 use Rattle.nw_trie.specs.Entries.{EachKey}
 use Rattle.nw_trie.specs.Places.{AreAtPlaces, joined, place_of}
 use Rattle.nw_trie.proofs.DigestBits.{digest_less, one_digest}
 use Rattle.nw_trie.proofs.Keys.{each_left, each_right, each_both, each_more, each_pair, each_insert, each_remove}
-use Rattle.nw_trie.proofs.Inserts.{digests_total, insert_before, insert_past}
+use Rattle.nw_trie.proofs.Inserts.{insert_before, insert_past}
 use Rattle.nw_trie.proofs.Removals.{remove_before, remove_none, remove_past}
 use Rattle.nw_trie.proofs.Sides.{lookup_before, lookup_past, none_found, unlike}
 

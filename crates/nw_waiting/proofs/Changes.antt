@@ -14,9 +14,9 @@ use Rattle.nw_digest.specs.Order.{digest_cmp}
 use Rattle.nw_waiting.specs.Pairs.{AreHolders, AreMissing, AreWanted, Pairs, without_holder, without_wanted}
 use Rattle.nw_model.specs.Missing.{wanted_cmp}
 use Rattle.nw_waiting.proofs.Members.{member_added, once_added}
-use Rattle.nw_model.proofs.Maps.{digests_total}
+use Rattle.nw_digest.proofs.Maps.{digests_total, same_digest}
 use Rattle.nw_model.proofs.WantedOrder.{one_wanted, wanted_total}
-use Rattle.nw_waiting.proofs.Relation.{are_holders, are_missing, are_wanted, contains_added, contains_in, contains_without_holder, contains_without_wanted, filled_taken, is_pair, member_taken, nobody, once_taken, one_digest, same_added, same_satisfied, same_unwanted, view_is}
+use Rattle.nw_waiting.proofs.Relation.{are_holders, are_missing, are_wanted, contains_added, contains_in, contains_without_holder, contains_without_wanted, filled_taken, is_pair, member_taken, nobody, once_taken, same_added, same_satisfied, same_unwanted, view_is}
 
 module _ {L M : Type 0} (items : L → List Digest) (missing : M → List Wanted) where
   abbrev holders_at : List (Wanted × L) → Wanted → List Digest
@@ -82,7 +82,7 @@ module _ {L M : Type 0} (items : L → List Digest) (missing : M → List Wanted
         added put_l filled sorted = record {
           same = λ w h. same_added wanted w holder h _ _ _ _ (member_added wanted_cmp digests_total (holders_at hs) (holders_at hs') wanted holder put_h w h) (member_added digest_cmp wanted_total (missing_at ls) (missing_at ls') holder wanted put_l h w) (r.same w h);
           holders_once = once_put;
-          missing_once = once_added digest_cmp wanted_total (missing_at ls) (missing_at ls') holder wanted put_l r.missing_once (λ q e. ap (λ d. list_any (eq_by_cmp wanted_cmp wanted) (missing_at ls d)) (sym (one_digest holder q e)) ∙ absent);
+          missing_once = once_added digest_cmp wanted_total (missing_at ls) (missing_at ls') holder wanted put_l r.missing_once (λ q e. ap (λ d. list_any (eq_by_cmp wanted_cmp wanted) (missing_at ls d)) (sym (same_digest holder q e)) ∙ absent);
           filled = filled;
           ordered = sorted;
         }

@@ -1,5 +1,5 @@
 mod Changes
-mod Members
+pub mod Members
 pub mod Orders
 mod Parted
 pub mod Relation

@@ -1,15 +1,13 @@
 -- The order of pairs.
-use Rattle.std.proofs.Common.{◌≡◌, refl, ◌&&◌}
-use Rattle.std.specs.declared.cmp.Ordering.{Ordering}
-use Rattle.std.specs.declared.cmp.Ordering.TheVariants.{Less, Equal, Greater}
-use Rattle.std.specs.Cmp.{IsTotalOrder}
-use Rattle.std.specs.Ordering.{is_eq, eq_by_cmp, ordering_then}
+use Rattle.std.proofs.Common.{◌≡◌, ◌&&◌, sym}
+use Rattle.std.specs.Cmp.{IsTotalOrder, tied_then}
+use Rattle.std.specs.Ordering.{eq_by_cmp}
 use Rattle.std.specs.FinMap.{IsAntisymmetric}
 use Rattle.std.proofs.lemmas.Cmp.{on_total, then_total}
 use Rattle.std.proofs.lemmas.Map.Lookups.{exact_pairs}
 use Rattle.nw_digest.specs.Order.{digest_cmp}
 use Rattle.nw_model.specs.Missing.{wanted_cmp}
-use Rattle.nw_model.proofs.Maps.{digests_apart, digests_total}
+use Rattle.nw_digest.proofs.Maps.{digests_apart, digests_total}
 use Rattle.nw_model.proofs.WantedOrder.{wanted_apart, wanted_total}
 use Rattle.nw_waiting.specs.Pairs.{Pair, pair_cmp}
 
@@ -19,11 +17,6 @@ pairs_total = then_total (on_total (λ (p : Pair). p.0) wanted_total) (on_total 
 pub pairs_apart : IsAntisymmetric pair_cmp
 pairs_apart = exact_pairs wanted_cmp digest_cmp wanted_apart digests_apart
 
-tied_then : (a b : Ordering) → is_eq (ordering_then a b) ≡ (is_eq a && is_eq b)
-tied_then Less b = refl
-tied_then Equal b = refl
-tied_then Greater b = refl
-
--- pairs compare as equal exactly if both parts do
+-- pairs compare as equal exactly when both parts do
 pub pair_tied : (p q : Pair) → eq_by_cmp pair_cmp p q ≡ (eq_by_cmp wanted_cmp p.0 q.0 && eq_by_cmp digest_cmp p.1 q.1)
-pair_tied p q = tied_then (wanted_cmp p.0 q.0) (digest_cmp p.1 q.1)
+pair_tied p q = sym (tied_then (wanted_cmp p.0 q.0) (digest_cmp p.1 q.1))

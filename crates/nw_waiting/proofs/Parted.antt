@@ -11,12 +11,12 @@ use Rattle.nw_digest.specs.declared.digest.Digest.{Digest}
 use Rattle.nw_digest.specs.Order.{digest_cmp}
 use Rattle.nw_model.specs.declared.wanted.Wanted.{Wanted}
 use Rattle.nw_model.specs.Missing.{wanted_cmp}
-use Rattle.nw_model.proofs.Maps.{digests_total}
+use Rattle.nw_digest.proofs.Maps.{digests_total, same_digest}
 use Rattle.nw_model.proofs.WantedOrder.{one_wanted, wanted_total}
 use Rattle.nw_waiting.specs.Pairs.{AreMissing, AreWanted, Lacks, Pair, Pairs, pair_cmp, without_holder, without_wanted}
 use Rattle.nw_waiting.specs.Parted.{AreSameForOthers, HaveHolders, IsMetForAll, Parted, is_one, parted}
 use Rattle.nw_waiting.proofs.Orders.{pair_tied, pairs_apart, pairs_total}
-use Rattle.nw_waiting.proofs.Relation.{contains_without_holder, contains_without_wanted, one_digest}
+use Rattle.nw_waiting.proofs.Relation.{contains_without_holder, contains_without_wanted}
 
 at_unmet : (s : Pairs) (ks : List Wanted) (w : Wanted) (h : Digest) → contains (parted s ks).unmet (w, h) ≡ (contains s (w, h) && is_one ks w)
 at_unmet s ks w h = contains-retain s (λ p. is_one ks p.0) (w, h) (λ x e. ap (λ (p : Pair). is_one ks p.0) (sym (pairs_apart (w, h) x e)))
@@ -99,7 +99,7 @@ module _ (s t : Pairs) (ks : List Wanted) (wanted : Wanted) (holder : Digest) (a
         by a b m never = grind arith
 
         all : contains t (w, h) ≡ contains s (w, h)
-        all = at_more w h ∙ by (eq_by_cmp wanted_cmp wanted w) (eq_by_cmp digest_cmp h holder) (contains s (w, h)) (λ e. other (one_digest h holder e))
+        all = at_more w h ∙ by (eq_by_cmp wanted_cmp wanted w) (eq_by_cmp digest_cmp h holder) (contains s (w, h)) (λ e. other (same_digest h holder e))
 
         iff : {a b : Bool} → a ≡ b → IsTrue a ↔ IsTrue b
         iff e = ((λ is. sym e ∙ is), (λ is. e ∙ is))
@@ -192,7 +192,7 @@ module _ (s t : Pairs) (ks : List Wanted) (holder : Digest) (without : t ≡ wit
   left_first rest held missing = record { same = λ w h. refl; held = λ w is. by w (held w is).0 (held w is).1 (eq_by_cmp digest_cmp holder (held w is).0) refl }
     where
       by : (w : Wanted) (h : Digest) → Lacks s h w → (b : Bool) → eq_by_cmp digest_cmp holder h ≡ b → ((h : Digest) × Lacks t h w) ⊎ (is_one rest w ≡ true)
-      by w h lacks true e = inr (list_any-from_Contains (eq_by_cmp_equiv wanted_total) w rest ((missing.exactly w).1 (subst (λ d. Lacks s d w) (sym (one_digest holder h e)) lacks)))
+      by w h lacks true e = inr (list_any-from_Contains (eq_by_cmp_equiv wanted_total) w rest ((missing.exactly w).1 (subst (λ d. Lacks s d w) (sym (same_digest holder h e)) lacks)))
       by w h lacks false e = inl (h, at_rest w h ∙ and_from (contains s (w, h)) (not (eq_by_cmp digest_cmp holder h)) lacks (ap not e))
 
   pub left_unmet : (now rest : List Wanted) → AreLeft t ks now rest → (parted t now).unmet ≡ without_holder (parted s ks).unmet holder

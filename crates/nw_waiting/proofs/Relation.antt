@@ -21,18 +21,9 @@ use Rattle.nw_waiting.specs.Lists.{AreFilled, list_of}
 use Rattle.nw_digest.specs.Order.{digest_cmp}
 use Rattle.nw_waiting.specs.Pairs.{AreHolders, AreMissing, AreWanted, Lacks, Pair, Pairs, pair_cmp, without_holder, without_wanted}
 use Rattle.nw_model.specs.Missing.{wanted_cmp}
-use Rattle.nw_model.proofs.Kept.{tie}
-use Rattle.nw_model.proofs.Maps.{digests_apart, digests_total}
+use Rattle.nw_digest.proofs.Maps.{digests_total, tie, same_digest}
 use Rattle.nw_model.proofs.WantedOrder.{one_wanted, wanted_total}
 use Rattle.nw_waiting.proofs.Orders.{pair_tied, pairs_apart, pairs_total}
-
-left : (a b : Bool) → (a && b) ≡ true → a ≡ true
-left true b e = refl
-left false b e = cc
-
-right : (a b : Bool) → (a && b) ≡ true → b ≡ true
-right true b e = e
-right false b e = cc
 
 or_false : (b : Bool) → (b || false) ≡ b
 or_false true = refl
@@ -41,9 +32,6 @@ or_false false = refl
 pub on_err : {T E : Type 0} (r : Result T E) {P : Type 0} → P → OnErr r P
 on_err (Ok x) p = tt
 on_err (Err e) p = p
-
-pub one_digest : (c d : Digest) → eq_by_cmp digest_cmp c d ≡ true → c ≡ d
-one_digest c d e = digests_apart c d (tie (digest_cmp c d) e)
 
 module _ {L : Type 0} (holders : L → List Digest) where
   any_of_one : (w v : Wanted) (h : Digest) (hs : List Digest)
@@ -198,7 +186,7 @@ same_unwanted holder h w n m is =
     apart false c = refl
 
     by : (b : Bool) → eq_by_cmp digest_cmp h holder ≡ b → (n h w && not (n holder w && b)) ≡ (n h w && not b)
-    by true e = ap (λ d. n h w && not (n d w && true)) (sym (one_digest h holder e)) ∙ itself (n h w)
+    by true e = ap (λ d. n h w && not (n d w && true)) (sym (same_digest h holder e)) ∙ itself (n h w)
     by false e = apart (n h w) (n holder w)
 
 pub contains_without_wanted : (s : Pairs) (wanted w : Wanted) (h : Digest) → (contains s (w, h) && not (eq_by_cmp wanted_cmp wanted w)) ≡ contains (without_wanted s wanted) (w, h)
@@ -214,7 +202,7 @@ pub are_holders : (s : Pairs) (wanted : Wanted) (xs : List Digest) → ((h : Dig
 are_holders s wanted xs is once = record {
   exactly = λ h. (
     (λ has. (sym (is h) ∙ list_any-from_Contains (eq_by_cmp_equiv digests_total) h xs has)),
-    (λ has. Contains-from_any one_digest h xs (is h ∙ has)),
+    (λ has. Contains-from_any same_digest h xs (is h ∙ has)),
   );
   once = once;
 }

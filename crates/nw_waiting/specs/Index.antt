@@ -28,7 +28,7 @@ module _ {L M : Type 0} (holders : L → List Digest) (missing : M → List Want
 
   -- the two indexes have the same pairs
   pub record HaveSamePairs (hs : List (Wanted × L)) (ls : List (Digest × M)) : Type 0 where
-    -- a pair is in the first exactly if it is in the second
+    -- a pair is in the first exactly when it is in the second
     pub same : (w : Wanted) (h : Digest) → list_any (eq_by_cmp digest_cmp h) (holders_at hs w) ≡ list_any (eq_by_cmp wanted_cmp w) (missing_at ls h)
     -- each list has a holder at most once
     pub holders_once : (w : Wanted) → IsDistinct (eq_by_cmp digest_cmp) (holders_at hs w)

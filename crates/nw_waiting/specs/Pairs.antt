@@ -4,12 +4,11 @@ use Rattle.std.specs.Coded.{Coded, code_by, coded×, coded_ℕ, coded_list}
 use Rattle.std.specs.declared.cmp.Ordering.{Ordering}
 use Rattle.std.specs.Ordering.{ordering_then, eq_by_cmp}
 use Rattle.std.specs.List.{IsDistinct}
-use Rattle.std.specs.List.Sorted.{IsStrictlySortedBy}
 use Rattle.std.specs.FinSet.{FinSet, contains, retain}
 use Rattle.nw_digest.specs.Order.{digest_cmp}
 use Rattle.nw_digest.specs.declared.digest.Digest.{Digest}
 use Rattle.nw_model.specs.declared.wanted.Wanted.{Wanted}
-use Rattle.nw_model.specs.Missing.{wanted_cmp}
+use Rattle.nw_model.specs.Missing.{wanted_cmp, HasCount, ListsExactly}
 
 -- a wanted parent, and a holder that is missing it
 abbrev pub Pair : Type 0
@@ -41,12 +40,13 @@ pub record AreMissing (pairs : Pairs) (holder : Digest) (missing : List Wanted) 
   -- each once
   pub once : IsDistinct (eq_by_cmp wanted_cmp) missing
 
--- the wanted parents
-pub record AreWanted (pairs : Pairs) (wanted : List Wanted) : Type 0 where
-  -- exactly those that some holder is missing
-  pub exactly : (w : Wanted) → Contains wanted w ↔ ((holder : Digest) × Lacks pairs holder w)
-  -- ascending, each once
-  pub ascending : IsStrictlySortedBy wanted_cmp wanted
+-- the parent is wanted: some holder is missing it
+abbrev pub IsLacked : Pairs → Wanted → Type 0
+IsLacked pairs wanted = (holder : Digest) × Lacks pairs holder wanted
+
+-- the wanted parents, ascending, each once
+abbrev pub AreWanted : Pairs → List Wanted → Type 0
+AreWanted pairs wanted = ListsExactly wanted_cmp (IsLacked pairs) wanted
 
 -- n is the number of the holder's missing parents
 abbrev pub LacksCount : Pairs → Digest → ℕ → Type 0
@@ -54,7 +54,7 @@ LacksCount pairs holder n = (missing : List Wanted) × AreMissing pairs holder m
 
 -- n is the number of different wanted parents
 abbrev pub WantedCount : Pairs → ℕ → Type 0
-WantedCount pairs n = (wanted : List Wanted) × AreWanted pairs wanted × (length wanted ≡ n)
+WantedCount pairs n = HasCount wanted_cmp (IsLacked pairs) n
 
 -- the first k wanted parents, or all if there are fewer
 abbrev pub AreFirst : Pairs → ℕ → List Wanted → Type 0

@@ -14,7 +14,7 @@ use std::collections::BTreeSet;
 use std::marker::Model;
 
 /// Missing parents, and the holders (digests of blocks) that are missing them. Some parents are *unmet*, as the
-/// caller says in `want` and `meet`: each for all its holders. Contracts see two sets of pairs: all, and those of unmet parents.
+/// caller says in `add` and `meet`: each for all its holders. Contracts see two sets of pairs: all, and those of unmet parents.
 #[derive(Drop)]
 pub struct MissingParents<A: Allocator> {
     /// All pairs.
@@ -51,7 +51,7 @@ impl<A: Allocator + Copy> MissingParents<A> {
     /// the same for them.
     ///
     /// `NoMemory` if an allocation fails. Then nothing changes.
-    pub fn want(&mut self, wanted: Wanted, holder: Digest, is_met: bool) -> Result<(), NoMemory>
+    pub fn add(&mut self, wanted: Wanted, holder: Digest, is_met: bool) -> Result<(), NoMemory>
         requires { IsMetForAll self.old wanted is_met }
         ensures lacking { OnOk result
             (self.new.lacking ≡ set.insert self.old.lacking (wanted, holder)) }
@@ -83,7 +83,7 @@ impl<A: Allocator + Copy> MissingParents<A> {
     }
 
     /// Removes the parent from the table, and returns the holders that were missing it, each once. Allocates nothing.
-    pub fn satisfy(&mut self, wanted: &Wanted) -> Vec<Digest, A>
+    pub fn drop_parent(&mut self, wanted: &Wanted) -> Vec<Digest, A>
         ensures holders { AreHolders self.old.lacking wanted.now result.items }
         ensures unmet { self.new.unmet ≡ without_wanted self.old.unmet wanted.now }
         ensures lacking { self.new.lacking ≡ without_wanted self.old.lacking wanted.now }
@@ -93,7 +93,7 @@ impl<A: Allocator + Copy> MissingParents<A> {
     }
 
     /// Removes all missing parents of the holder. Allocates nothing.
-    pub fn unwant(&mut self, holder: Digest)
+    pub fn drop_holder(&mut self, holder: Digest)
         ensures unmet { self.new.unmet ≡ without_holder self.old.unmet holder }
         ensures lacking { self.new.lacking ≡ without_holder self.old.lacking holder }
     {

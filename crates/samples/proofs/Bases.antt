@@ -7,9 +7,9 @@ use Rattle.nw_digest.specs.declared.digest.Digest.{Digest}
 use Rattle.nw_codec.specs.declared.block.Block.{Block}
 use Rattle.nw_digest.specs.Order.{digest_cmp, Slot}
 use Rattle.nw_model.specs.State.{block_slot}
-use Rattle.nw_model.proofs.Finding.{none_some}
-use Rattle.nw_model.proofs.Kept.{after_insert, at_insert, same_digest}
-use Rattle.nw_model.proofs.Maps.{digests_total}
+use Rattle.std.proofs.lemmas.Option.{none-some}
+use Rattle.nw_model.proofs.Kept.{after_insert, at_insert}
+use Rattle.nw_digest.proofs.Maps.{digests_total, same_digest}
 use Rattle.samples.specs.Sample.{name_of, AreNamed, AreBases, NameBases, AreNext}
 
 -- the digests of two slots differ in their first byte
@@ -36,8 +36,8 @@ named_more m s b named own d c at = elim (after_insert m (name_of s) b d c at) [
 
 pub bases_none : AreBases 0 empty
 bases_none = record {
-  named = λ d b at. absurd (none_some b (sym (get-empty digest_cmp d) ∙ at));
-  first = λ d b at. absurd (none_some b (sym (get-empty digest_cmp d) ∙ at));
+  named = λ d b at. absurd (none-some b (sym (get-empty digest_cmp d) ∙ at));
+  first = λ d b at. absurd (none-some b (sym (get-empty digest_cmp d) ∙ at));
   held = λ author below. absurd (omega arith);
 }
 
@@ -61,7 +61,7 @@ bases_more n blocks b bases round author = record {
 
 pub next_one : (n : ℕ) (b : Block) → b.round ≡ 1 → b.author ≡ 0 → NameBases n b.parents → AreNext n (insert empty (name_of (1, 0)) b)
 next_one n b round author parents = record {
-  named = named_more empty (1, 0) b (λ d c at. absurd (none_some c (sym (get-empty digest_cmp d) ∙ at))) (slot_is b 1 0 round author);
+  named = named_more empty (1, 0) b (λ d c at. absurd (none-some c (sym (get-empty digest_cmp d) ∙ at))) (slot_is b 1 0 round author);
   second = λ d c at. sym (ap (λ (x : Block). x.round) (alone_there d c at)) ∙ round;
   parents = λ d c at. subst (λ (x : Block). NameBases n x.parents) (alone_there d c at) parents;
 }
@@ -69,5 +69,5 @@ next_one n b round author parents = record {
     alone_there : (d : Digest) (c : Block) → get {R = digest_cmp} (insert empty (name_of (1, 0)) b) d ≡ Some c → b ≡ c
     alone_there d c at = elim (after_insert empty (name_of (1, 0)) b d c at) [
       | inl here ↦ here.1
-      | inr there ↦ absurd (none_some c (sym (get-empty digest_cmp d) ∙ there))
+      | inr there ↦ absurd (none-some c (sym (get-empty digest_cmp d) ∙ there))
     ]

@@ -2,7 +2,7 @@
 ghost use Rattle.std.specs.Prelude.{IfSome};
 ghost use Rattle.nw_codec.specs.Fits.{Fits};
 
-use nw_codec::{Block, Seal, Signature, block_digest};
+use nw_codec::{Block, Seal, Signature, Subject, block_digest};
 use nw_committee::{Committee, Key};
 use nw_digest::{Digest, Round};
 use nw_sig::{DemoSigner, Signer, text_of_block, text_of_vote};
@@ -25,6 +25,14 @@ pub fn signature(committee: &Committee, block: &Block, signer: u16) -> Option<Si
 
 /// The signer's vote for the digest, round and author, as a certificate contains it.
 pub fn seal(committee: &Committee, digest: Digest, round: Round, author: u16, signer: u16) -> Seal {
-    let signature = sign(committee, signer, &text_of_vote(&digest, round, author));
+    let signature = sign(
+        committee,
+        signer,
+        &text_of_vote(&Subject {
+            digest,
+            round,
+            author,
+        }),
+    );
     Seal { signer, signature }
 }

@@ -1,10 +1,10 @@
 use nw_check::{BlockFault, CertFault, Checked, check_message};
 use nw_codec::DecodeError;
-use nw_committee::{Committee, Member};
+use nw_committee::Committee;
 use nw_digest::{NoMemory, Round, Shared};
 use nw_sig::DemoScheme;
+use samples::committee;
 use samples::fallible::Slot;
-use samples::key;
 use std::alloc::Global;
 use std::test::Fail;
 
@@ -50,16 +50,4 @@ fn found_in(checked: &Checked<DemoScheme>) -> Found {
 /// The result of checking the text under the committee.
 fn judge(alloc: Global, committee: &Shared<Committee>, text: &[u8]) -> Result<Found, NoMemory> {
     Ok(found_in(&check_message(alloc, committee, text)?))
-}
-
-/// A committee of members with these weights.
-fn members(alloc: Global, weights: &[u32]) -> Result<Shared<Committee>, Fail> {
-    let mut members = Vec::new(alloc);
-    for (number, weight) in (0u16..).zip(weights) {
-        members.push(Member {
-            key: key(number),
-            weight: *weight,
-        })?;
-    }
-    Ok(Shared::new(alloc, Committee::weighted(members)?)?)
 }

@@ -22,15 +22,15 @@ struct Case {
     accepted: bool,
 }
 
-/// The first case whose result is wrong, if there is one: by the scheme, or by a prepared committee that has all keys.
-fn first_wrong<'a>(alloc: Global, cases: &'a [Case]) -> Result<Option<&'a Case>, Fail> {
+/// R of the first case whose result is wrong, if there is one: by the scheme, or by a prepared committee that has all keys.
+fn first_wrong(alloc: Global, cases: &[Case]) -> Result<Option<&'static str>, Fail> {
     let keys = keys_of(alloc, cases)?;
     let prepared = prepared(alloc, &keys)?;
     for case in cases {
-        let key = key_of(case)?;
+        let key = key_of(case.key)?;
         let number = u16::try_from(keys.iter().position(|it| *it == key).unwrap_or(0))?;
         if !is_right(alloc, case, &key, &prepared, number)? {
-            return Ok(Some(case));
+            return Ok(Some(case.r));
         }
     }
     Ok(None)
@@ -54,16 +54,16 @@ fn is_right(
     Ok(accepted == case.accepted && prepared == case.accepted)
 }
 
-/// The key of the case.
-fn key_of(case: &Case) -> Result<Key, FromHexError> {
-    Ok(Key(<[u8; 32] as FromHex>::from_hex(case.key)?))
+/// The key with these digits.
+fn key_of(digits: &str) -> Result<Key, FromHexError> {
+    Ok(Key(<[u8; 32] as FromHex>::from_hex(digits)?))
 }
 
 /// The keys of the cases, each once.
 fn keys_of(alloc: Global, cases: &[Case]) -> Result<Vec<Key>, Fail> {
     let mut keys = Vec::new(alloc);
     for case in cases {
-        let key = key_of(case)?;
+        let key = key_of(case.key)?;
         if !keys.contains(&key) {
             keys.push(key)?;
         }

@@ -5,7 +5,6 @@ use samples::{allow_allocations, fail_allocations, name, retry, round};
 use std::alloc::Global;
 
 mod dags;
-mod owns;
 mod plains;
 mod tables;
 mod views;

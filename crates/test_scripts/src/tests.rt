@@ -1,5 +1,7 @@
 use nw_play::{PlayFault, play};
+use std::alloc::Global;
 use std::io::{self, ErrorKind, Read, Write};
+use std::sync::Wait;
 use std::test::Fail;
 
 mod loads;
@@ -10,10 +12,11 @@ const SCRIPT: &[u8] = b"committee v1 1\nblock a 0 0 - x\nwrite a\nread a\n";
 
 const PRINTS: &[u8] = b"block a 18\na stored vote\na found 18\n";
 
-/// A reader that gives one byte at a time, fails after `left` bytes, and counts its reads.
+/// A reader that is interrupted `interruptions` times, then gives one byte at a time, fails after `left` bytes, and counts its reads.
 #[derive(Drop)]
 struct Drip<'a> {
     rest: &'a [u8],
+    interruptions: usize,
     left: usize,
     reads: usize,
 }
@@ -21,6 +24,10 @@ struct Drip<'a> {
 impl Read for Drip<'_> {
     fn read(&mut self, buf: &mut [u8]) -> io::Result<usize> {
         self.reads = self.reads.saturating_add(1);
+        if self.interruptions > 0 {
+            self.interruptions -= 1;
+            return Err(io::Error::from(ErrorKind::Interrupted));
+        }
         if self.left == 0 {
             return Err(io::Error::other("dry"));
         }
@@ -79,76 +86,56 @@ fn empty_page(lines: usize) -> Page {
     }
 }
 
-/// A case. First comes the number of bytes that the reader gives before it fails, and the number of lines that the writer takes. Then come
-/// the outcome, and the numbers of reads, of bytes written, and of failed writes.
-type Case = (usize, usize, Result<(), PlayFault>, usize, usize, usize);
+/// The outcome of a play, and the numbers of reads, of bytes written, and of failed writes.
+type Found = (Result<(), PlayFault>, [usize; 3]);
+
+/// Plays the script from a `Drip` with these interruptions and bytes, to a page that takes this number of lines.
+fn played<R: Wait>(
+    rt: &R,
+    alloc: Global,
+    script: &[u8],
+    [interruptions, left, lines]: [usize; 3],
+) -> (Found, Page) {
+    let mut reader = Drip {
+        rest: script,
+        interruptions,
+        left,
+        reads: 0,
+    };
+    let mut page = empty_page(lines);
+    let outcome = play(rt, alloc, &mut reader, &mut page);
+    ((outcome, [reader.reads, page.used, page.failed]), page)
+}
 
 #[test]
 fn readers_and_writers_fail(rt: HostRuntime) {
-    let cases: [(&str, Case); 3] = [
-        ("one byte at a time", (99, 9, Ok(()), 47, 36, 0)),
-        ("after 10 bytes", (10, 9, Err(PlayFault::Read), 11, 0, 0)),
-        (
-            "at its second line",
-            (99, 1, Err(PlayFault::Write), 47, 11, 1),
-        ),
-    ];
-    for (shows, (left, lines, outcome, reads, used, failed)) in cases {
-        let mut reader = Drip {
-            rest: SCRIPT,
-            left,
-            reads: 0,
-        };
-        let mut page = empty_page(lines);
-        let played = play(&rt, rt.alloc(), &mut reader, &mut page);
-        assert_eq!(rt; (played, reader.reads), (outcome, reads), "{shows}");
-        assert_eq!(rt; (page.used, page.failed), (used, failed), "{shows}");
-        assert!(rt;
-            page.bytes.starts_with(PRINTS.get(..used).unwrap_or(&[])),
+    for (shows, left, lines, outcome, counts) in [
+        ("one byte at a time", 99, 9, Ok(()), [47, 36, 0]),
+        ("after 10 bytes", 10, 9, Err(PlayFault::Read), [11, 0, 0]),
+        ("at line 2", 99, 1, Err(PlayFault::Write), [47, 11, 1]),
+    ] {
+        let (found, page) = played(&rt, rt.alloc(), SCRIPT, [0, left, lines]);
+        assert_eq!(rt; found, (outcome, counts), "{shows}");
+        assert_eq!(rt;
+            page.bytes.get(..page.used),
+            PRINTS.get(..page.used),
             "{shows}"
         );
     }
 }
 
-/// A reader that is interrupted `left` times before it gives the script, and counts its reads.
-#[derive(Drop)]
-struct Interrupted<'a> {
-    drip: Drip<'a>,
-    left: usize,
-}
-
-impl Read for Interrupted<'_> {
-    fn read(&mut self, buf: &mut [u8]) -> io::Result<usize> {
-        if self.left == 0 {
-            return self.drip.read(buf);
-        }
-        self.left -= 1;
-        self.drip.reads = self.drip.reads.saturating_add(1);
-        Err(io::Error::from(ErrorKind::Interrupted))
-    }
-}
-
-/// Interruptions before the script is given, the outcome, and the numbers of reads and of bytes written. The script takes 47 reads, and a
-/// reader is asked at most 1,048,577 times.
-const INTERRUPTIONS: [(usize, Result<(), PlayFault>, usize, usize); 3] = [
-    (3, Ok(()), 50, 36),
-    (1_048_530, Ok(()), 1_048_577, 36),
-    (1_048_531, Err(PlayFault::TooLong), 1_048_577, 0),
-];
-
+// The script takes 47 reads, and a reader is asked at most 1,048,577 times.
 #[test]
 fn interrupted_reads_are_repeated_and_counted(rt: HostRuntime) {
-    for (left, outcome, reads, used) in INTERRUPTIONS {
-        let drip = Drip {
-            rest: SCRIPT,
-            left: usize::MAX,
-            reads: 0,
-        };
-        let mut reader = Interrupted { drip, left };
-        let mut page = empty_page(9);
-        let played = play(&rt, rt.alloc(), &mut reader, &mut page);
-        assert_eq!(rt; (played, reader.drip.reads), (outcome, reads), "{left}");
-        assert_eq!(rt; page.bytes.get(..page.used), PRINTS.get(..used), "{left}");
+    for (interruptions, outcome, counts) in [
+        (3, Ok(()), [50, 36, 0]),
+        (1_048_530, Ok(()), [1_048_577, 36, 0]),
+        (1_048_531, Err(PlayFault::TooLong), [1_048_577, 0, 0]),
+    ] {
+        let limits = [interruptions, usize::MAX, 9];
+        let (found, page) = played(&rt, rt.alloc(), SCRIPT, limits);
+        assert_eq!(rt; found, (outcome, counts), "{interruptions}");
+        assert_eq!(rt; page.bytes.get(..page.used), PRINTS.get(..page.used));
     }
 }
 
@@ -180,14 +167,10 @@ fn the_longest_script_is_played_and_a_longer_one_is_not(rt: HostRuntime) -> Resu
         (2_000_000, PlayFault::TooLong, b""),
     ];
     for (length, fault, prints) in cases {
-        let mut reader = Drip {
-            rest: script.get(..length).ok_or("the script is shorter")?,
-            left: usize::MAX,
-            reads: 0,
-        };
-        let mut page = empty_page(9);
-        let played = play(&rt, rt.alloc(), &mut reader, &mut page);
-        assert_eq!(rt; (played, reader.reads), (Err(fault), 1_048_577), "{length}");
+        let part = script.get(..length).ok_or("the script is shorter")?;
+        let (found, page) = played(&rt, rt.alloc(), part, [0, usize::MAX, 9]);
+        let counts = [1_048_577, prints.len(), 0];
+        assert_eq!(rt; found, (Err(fault), counts), "{length}");
         assert_eq!(rt; page.bytes.get(..page.used), Some(prints), "{length}");
     }
     Ok(())

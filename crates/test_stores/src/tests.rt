@@ -32,6 +32,15 @@ const LIMITS: Limits = Limits {
     sessions: 16,
 };
 
+/// `LIMITS` with these numbers of events and sessions.
+const fn limits(events: u32, sessions: u32) -> Limits {
+    Limits {
+        events,
+        sessions,
+        ..LIMITS
+    }
+}
+
 /// A book without events, whose committee has this many members.
 fn book(alloc: Global, members: u16, limits: Limits) -> Result<Book<DemoScheme>, Fail> {
     Ok(Book::new(alloc, committee(alloc, members)?, limits)?)

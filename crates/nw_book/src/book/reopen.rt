@@ -4,7 +4,7 @@ ghost use Rattle.nw_history.specs.Story.{reopened};
 
 use super::Book;
 use nw_digest::NoMemory;
-use nw_history::History;
+use nw_history::Front;
 use nw_sig::Scheme;
 use std::alloc::Global;
 
@@ -38,7 +38,7 @@ impl<S: Scheme> Book<S> {
     }
 
     /// The history without events that starts where the book's history ends.
-    fn restarted(&self, alloc: Global) -> Result<History<S>, NoMemory>
+    fn restarted(&self, alloc: Global) -> Result<Front<S>, NoMemory>
         ensures { IfOk result (λ history. history ≡ reopened self.now) }
     {
         let state = self.tables.copy(alloc)?;

@@ -12,7 +12,7 @@ use crate::hashed::HashedBlock;
 use nw_codec::{
     Block, EncodeError, MAX_PARENTS, MAX_TRANSACTIONS, Ref, Transactions, block_digest,
 };
-use nw_digest::{Digest, NoMemory, Round, Sequence, Shared};
+use nw_digest::{NoMemory, Round, Sequence, Shared};
 use std::alloc::Global;
 
 /// The parents in the caller's array.
@@ -24,7 +24,7 @@ fn parents_of(alloc: Global, listed: &[CParent]) -> Result<Vec<Ref>, NoMemory>
             .iter()
             .map(|parent| Ref {
                 author: parent.author,
-                digest: Digest(parent.digest.bytes),
+                digest: parent.digest.get(),
             })
             .collect(alloc)?,
     )
@@ -84,6 +84,7 @@ pub extern "C" fn nw_block_new(
     let Some(round) = Round::new(round) else {
         return BAD_ROUND;
     };
+    // Before anything is copied.
     if parents.len() > MAX_PARENTS || lengths.len() > MAX_TRANSACTIONS {
         return OVER_LIMIT;
     }

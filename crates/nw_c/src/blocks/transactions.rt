@@ -1,24 +1,20 @@
 //! Copying the transactions of a block.
-ghost use Rattle.std.specs.Prelude.{◌≡◌, ◌⊎◌, ◌≤◌, pos, length, map, take, true};
+ghost use Rattle.std.specs.Prelude.{◌≡◌, ◌≤◌, pos, length, map, take, true};
 ghost use Rattle.std.specs.List.{flat_map};
-ghost use Rattle.nw_codec.specs.Fits.{Fits};
-ghost use Rattle.nw_c.specs.Blocks.{AreCutFrom, HasNoRoom, HasTransactions, IsBlockOverLimit, NeedMoreThan};
+ghost use Rattle.nw_c.specs.Blocks.{AreCutFrom, HasNoRoom, HasTransactions, NeedMoreThan};
 ghost use Rattle.nw_c.specs.Kinds.{IsUnchanged, HoldsBlock};
 ghost use Rattle.nw_c.specs.declared.codes.TheConstants.{CLOSED, OTHER_KIND, OVER_LIMIT, SMALL};
 
-use crate::codes::{CLOSED, DONE, OTHER_KIND, OVER_LIMIT, SMALL};
+use crate::codes::{CLOSED, DONE, OTHER_KIND, SMALL};
 use crate::content::Content;
 use crate::handle::BlockHandle;
-use nw_codec::{Block, Transactions};
+use nw_codec::Transactions;
 
 /// The number of bytes of all transactions together. It visits none of them.
-fn size_of_all(block: &Block) -> usize
-    requires { Fits block.now }
-    ensures { result ≡ length (flat_map (λ t. t) block.now.transactions) }
+fn size_of_all(transactions: &Transactions) -> usize
+    ensures { result ≡ length (flat_map (λ t. t) transactions.now) }
 {
-    let (parents, count) = (block.parents.as_slice().len(), block.transactions.len());
-    let around = 13 + 34 * parents + 4 * count;
-    block.body_size() - around
+    transactions.size() - 4 * transactions.len()
 }
 
 /// Copies the transactions, one after another, and their lengths.
@@ -39,33 +35,31 @@ fn copy_all(transactions: &Transactions, bytes: &mut [u8], lengths: &mut [u32])
     }
 }
 
-/// Writes the size of all transactions to `needed`, and copies them with their lengths. Returns `SMALL` if there is no room, and
-/// `OVER_LIMIT` if the block does not fit the format.
-fn copied(block: &Block, bytes: &mut [u8], lengths: &mut [u32], needed: &mut usize) -> i32
+/// Writes the size of all transactions to `needed`, and copies them with their lengths. Returns `SMALL` if there is no room.
+fn copied(
+    transactions: &Transactions,
+    bytes: &mut [u8],
+    lengths: &mut [u32],
+    needed: &mut usize,
+) -> i32
     ensures done { result ≡ pos 0 → AreCutFrom (take needed.new bytes.new)
-        (take (length block.now.transactions) lengths.new) block.now.transactions }
-    ensures refused { (result ≡ pos 0 → ⊥) → (result ≡ SMALL) ⊎ (result ≡ OVER_LIMIT) }
-    ensures over_limit { result ≡ OVER_LIMIT → Fits block.now → ⊥ }
-    ensures small { result ≡ SMALL
-        → NeedMoreThan (length bytes.old) (length lengths.old) block.now.transactions }
+        (take (length transactions.now) lengths.new) transactions.now }
+    ensures small { (result ≡ pos 0 → ⊥)
+        → (result ≡ SMALL) × NeedMoreThan (length bytes.old) (length lengths.old) transactions.now }
     ensures unchanged { (result ≡ pos 0 → ⊥) → (bytes.new ≡ bytes.old) × (lengths.new ≡ lengths.old) }
 {
-    if !block.fits() {
-        return OVER_LIMIT;
-    }
-    let size = size_of_all(block);
+    let size = size_of_all(transactions);
     *needed = size;
-    if size > bytes.len() || block.transactions.len() > lengths.len() {
+    if size > bytes.len() || transactions.len() > lengths.len() {
         return SMALL;
     }
-    copy_all(&block.transactions, bytes, lengths);
+    copy_all(transactions, bytes, lengths);
     DONE
 }
 
 /// Copies all transactions of the block to the buffer, one after another, and their sizes to `lengths`, in the form that `nw_block_new`
 /// takes. Writes the size of all together to `needed`. Returns `NW_SMALL` if the buffer is smaller than that, or if `lengths` has fewer
-/// places than the block has transactions (`nw_block_counts`). Returns `NW_OVER_LIMIT` if the block breaks a limit of the format; no
-/// checked block does.
+/// places than the block has transactions (`nw_block_counts`).
 #[unsafe(no_mangle)]
 pub extern "C" fn nw_block_transactions(
     block: &mut BlockHandle,
@@ -78,7 +72,7 @@ pub extern "C" fn nw_block_transactions(
     ensures same { IsUnchanged block.old block.new }
     ensures closed { result ≡ CLOSED → block.old.held ≡ true → ⊥ }
     ensures other_kind { result ≡ OTHER_KIND → HoldsBlock block.old.value → ⊥ }
-    ensures over_limit { result ≡ OVER_LIMIT → IsBlockOverLimit block.old.value }
+    ensures over_limit { result ≡ OVER_LIMIT → ⊥ }
     ensures small { result ≡ SMALL → HasNoRoom block.old.value (length buffer.old) (length lengths.old) }
     ensures unchanged { (result ≡ pos 0 → ⊥) → (buffer.new ≡ buffer.old) × (lengths.new ≡ lengths.old) }
 {
@@ -86,7 +80,7 @@ pub extern "C" fn nw_block_transactions(
         return CLOSED;
     }
     match block.lend() {
-        Content::Block(held) => copied(held.block(), buffer, lengths, needed),
+        Content::Block(held) => copied(&held.block().transactions, buffer, lengths, needed),
         _ => OTHER_KIND,
     }
 }

@@ -19,12 +19,23 @@ pub(crate) fn put(alloc: Global, out: &mut Handle, content: Content) -> i32
 {
     match Box::new(alloc, content) {
         Ok(held) => {
-            *out = Handle::of_parts(Parts::of(held));
+            open(out, held);
             DONE
         }
         Err(refused) => {
             drop(refused);
             NO_MEMORY
+        }
+    }
+}
+
+/// Room for a value that must not be lost, or `None` if memory runs out. It is made before the value.
+pub(crate) fn room(alloc: Global) -> Option<Box<Content, Global>> {
+    match Box::new(alloc, Content::Room) {
+        Ok(room) => Some(room),
+        Err(refused) => {
+            drop(refused);
+            None
         }
     }
 }

@@ -4,34 +4,26 @@ ghost use Rattle.std.specs.Prelude.{length, All, MatchResult, IfOk};
 ghost use Rattle.std.specs.List.{flat_map};
 ghost use Rattle.nw_codec.specs.declared.certificate.Certificate.{Certificate};
 ghost use Rattle.nw_codec.specs.declared.message.Message.TheVariants as messages;
-ghost use Rattle.nw_codec.specs.Faults.{Kind, OfCertificate, OfVote, AtDigest};
+ghost use Rattle.nw_codec.specs.Faults.{OfCertificate, OfVote, AtDigest};
 ghost use Rattle.nw_codec.specs.Faults.{FaultFrom};
 ghost use Rattle.nw_codec.specs.Grammar.{seal_bytes};
-ghost use Rattle.nw_codec.specs.Parts.{SubjectAt, AreCertificateParts, Decodes};
+ghost use Rattle.nw_codec.specs.Parts.{AreCertificateParts, Decodes};
 ghost use Rattle.nw_codec.specs.Spelled.{Spells};
 ghost use Rattle.nw_codec.specs.Typed.{IsSeal};
 
 use super::fields::{
     at_end, field, front, number_of, read_count, read_items, read_last_signature, read_number,
-    read_round,
+    subject_of,
 };
 use crate::limits::{CERTIFICATE_TAG, MAX_VOTES, SEAL_BYTES, VOTE_TAG};
 use crate::{Certificate, DecodeError, Message, Seal, Signature, Vote};
-use nw_digest::{Digest, NoMemory, Round, Sequence};
+use nw_digest::{NoMemory, Sequence};
 use std::alloc::Global;
 
-/// The fields of a subject's text. The round is still a number.
-#[derive(Clone, Copy)]
-struct SubjectParts {
-    digest: Digest,
-    round: u64,
-    author: u16,
-}
-
-/// The checked fields of a certificate's text. The seals are still encoded.
+/// The checked fields of a certificate's text. They are still encoded.
 #[derive(Drop)]
 struct CertificateParts<'a> {
-    subject: SubjectParts,
+    subject: &'a [u8; 40],
     seals: &'a [u8],
 }
 
@@ -48,12 +40,13 @@ pub(super) fn decode_vote(text: &[u8]) -> Result<Message, DecodeError>
     ensures { MatchResult result (λ m. Spells (VOTE_TAG ∷ text.now) m)
         (λ e. FaultFrom (AtDigest OfVote) text.now e) }
 {
-    let (subject, rest) = read_subject(text)?;
+    let (subject, rest) = field::<40>(text)?;
     let (signer, rest) = read_number(rest)?;
     let signature = read_last_signature(rest)?;
+    let subject = subject_of(subject);
     Ok(Message::Vote(Vote {
         digest: subject.digest,
-        round: Round::new(subject.round).unwrap(),
+        round: subject.round,
         author: subject.author,
         signer,
         signature,
@@ -64,50 +57,29 @@ pub(super) fn decode_vote(text: &[u8]) -> Result<Message, DecodeError>
 fn read_certificate(text: &[u8]) -> Result<CertificateParts<'_>, DecodeError>
     ensures { MatchResult result
         (λ p. (c : Certificate) × Spells (CERTIFICATE_TAG ∷ text.now) (messages.Certificate c)
-        × AreCertificateParts c p.subject.digest p.subject.round p.subject.author p.seals.now)
+        × AreCertificateParts c p.subject.now p.seals.now)
         (λ e. FaultFrom (AtDigest OfCertificate) text.now e) }
 {
-    let (subject, rest) = read_subject(text)?;
+    let (subject, rest) = field::<40>(text)?;
     let (count, rest) = read_count(MAX_VOTES, DecodeError::TooManyVotes, rest)?;
     let (seals, rest) = read_items::<64>(count, DecodeError::VoteOrder, rest)?;
     at_end(rest)?;
     Ok(CertificateParts { subject, seals })
 }
 
-/// The subject at the front of the text, and the rest.
-fn read_subject(text: &[u8]) -> Result<(SubjectParts, &[u8]), DecodeError>
-    ensures { (kind : Kind) → MatchResult result
-        (λ x. SubjectAt text.now x.0.digest x.0.round x.0.author x.1.now)
-        (λ e. FaultFrom (AtDigest kind) text.now e) }
-{
-    let (digest, rest) = field::<32>(text)?;
-    let (round, rest) = read_round(rest)?;
-    let (author, rest) = read_number(rest)?;
-    let digest = Digest(*digest);
-    Ok((
-        SubjectParts {
-            digest,
-            round,
-            author,
-        },
-        rest,
-    ))
-}
-
 /// The certificate with these parts. Fails with `NoMemory` if an allocation fails.
 fn certificate_of(alloc: Global, parts: CertificateParts<'_>) -> Result<Certificate, NoMemory>
-    requires { (c : Certificate) × AreCertificateParts c parts.subject.digest parts.subject.round
-        parts.subject.author parts.seals.now }
-    ensures { (c : Certificate)
-        → AreCertificateParts c parts.entry.subject.digest parts.entry.subject.round
-        parts.entry.subject.author parts.entry.seals.now
+    requires { (c : Certificate) × AreCertificateParts c parts.subject.now parts.seals.now }
+    ensures { (c : Certificate) → AreCertificateParts c parts.entry.subject.now parts.entry.seals.now
         → IfOk result (λ certificate. certificate ≡ c) }
 {
+    let votes = seals_of(alloc, parts.seals)?;
+    let subject = subject_of(parts.subject);
     Ok(Certificate {
-        digest: parts.subject.digest,
-        round: Round::new(parts.subject.round).unwrap(),
-        author: parts.subject.author,
-        votes: seals_of(alloc, parts.seals)?,
+        digest: subject.digest,
+        round: subject.round,
+        author: subject.author,
+        votes,
     })
 }
 

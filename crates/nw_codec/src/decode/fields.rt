@@ -5,8 +5,11 @@ ghost use Rattle.nw_codec.specs.declared.error.DecodeError.TheVariants.{Short};
 ghost use Rattle.nw_codec.specs.Faults.{Stage, AtEnd, comes_after, Reaches, FaultFrom};
 ghost use Rattle.nw_codec.specs.Parts.{NumberAt, RoundAt, ItemsAt, LastSignature};
 ghost use Rattle.nw_codec.specs.Parts.{ReadsCount, AreItems, IsLast};
+ghost use Rattle.nw_codec.specs.Grammar.{subject_bytes};
+ghost use Rattle.nw_codec.specs.Typed.{IsSubject};
 
-use crate::{DecodeError, Signature};
+use crate::{DecodeError, Signature, Subject};
+use nw_digest::{Digest, Round};
 
 /// The field of `N` bytes at the front of the text, and the rest. `Short` if there are fewer bytes.
 pub(super) fn field<const N: usize>(text: &[u8]) -> Result<(&[u8; N], &[u8]), DecodeError>
@@ -46,14 +49,15 @@ pub(super) fn read_number(text: &[u8]) -> Result<(u16, &[u8]), DecodeError>
     Ok(number_of(text))
 }
 
-/// The round of six bytes at the front of the text, as a number, and the rest.
-pub(crate) fn round_of(text: &[u8]) -> (u64, &[u8])
+/// The round of six bytes at the front of the text, and the rest.
+pub(crate) fn round_of(text: &[u8]) -> (Round, &[u8])
     requires { 6 ≤ length text.now }
     ensures { RoundAt text.now result.0 result.1.now }
 {
     let (bytes, rest) = front::<6>(text);
     let [a, b, c, d, e, f] = *bytes;
-    (u64::from_be_bytes([0, 0, a, b, c, d, e, f]), rest)
+    let number = u64::from_be_bytes([0, 0, a, b, c, d, e, f]);
+    (Round::new(number).unwrap(), rest)
 }
 
 /// The round of six bytes at the front of the text, as a number, and the rest. `Short` if there are fewer bytes.
@@ -64,7 +68,23 @@ pub(super) fn read_round(text: &[u8]) -> Result<(u64, &[u8]), DecodeError>
     if text.len() < 6 {
         return Err(DecodeError::Short);
     }
-    Ok(round_of(text))
+    let (round, rest) = round_of(text);
+    Ok((round.get(), rest))
+}
+
+/// The subject that the text encodes.
+pub(crate) fn subject_of(text: &[u8; 40]) -> Subject
+    ensures typed { IsSubject result }
+    ensures bytes { text.now ≡ subject_bytes result }
+{
+    let (digest, rest) = front::<32>(text);
+    let (round, rest) = round_of(rest);
+    let (author, _) = number_of(rest);
+    Subject {
+        digest: Digest(*digest),
+        round,
+        author,
+    }
 }
 
 /// The count at the front of the text, at most `max`, and the rest. `over` is the fault of a greater count.

@@ -1,84 +1,110 @@
 //! Encodes certificates and votes.
-ghost use Rattle.std.specs.Prelude.{◌≡◌, ◌++◌, [], ◌∷◌, IfOk, OnOk, All};
+ghost use Rattle.std.specs.Prelude.{◌≡◌, ◌≤◌, ◌+◌, ◌*◌, ◌++◌, [], ◌∷◌, ℕ, List, length, take, IfOk, OnOk, All};
 ghost use Rattle.std.specs.List.{flat_map};
-ghost use Rattle.nw_codec.specs.Grammar.{subject_bytes, seal_bytes};
-ghost use Rattle.nw_codec.specs.Fits.{CertificateFits};
-ghost use Rattle.nw_codec.specs.Typed.{IsSubject, IsSeal};
+ghost use Rattle.nw_codec.specs.Grammar.{message, subject_bytes, seal_bytes};
+ghost use Rattle.nw_codec.specs.Fits.{CertificateFits, certificate_size, vote_size};
+ghost use Rattle.nw_codec.specs.Typed.{IsCertificate, IsSubject, IsSeal, IsVote};
 ghost use Rattle.nw_codec.specs.Spelled.{Spells};
 
-use super::Sink;
-use crate::limits::{CERTIFICATE_TAG, SEAL_BYTES, SUBJECT_BYTES, VOTE_TAG};
-use crate::{Certificate, Message, Seal, Vote};
-use nw_digest::{Digest, Round};
-use std::alloc::{AllocError, Global};
+use super::sink::{Front, Sink};
+use crate::limits::{CERTIFICATE_TAG, VOTE_TAG};
+use crate::{Certificate, Message, Seal, Subject, Vote};
+use nw_digest::NoMemory;
+use std::alloc::Global;
 
-/// A text with the tag and the subject: the digest, the round and the author of a block. It has room for `size` bytes in all.
-fn subject_text(
-    alloc: Global,
-    size: usize,
-    tag: u8,
-    digest: &Digest,
-    round: Round,
-    author: u16,
-) -> Result<Vec<u8>, AllocError>
-    ensures text { IfOk result
-        (λ v. v.items ≡ (tag ∷ []) ++ subject_bytes digest.now round author) }
-    ensures typed { OnOk result (IsSubject digest.now round author) }
+/// Writes the tag and the subject.
+fn put_subject<S: Sink>(sink: &mut S, tag: u8, subject: &Subject) -> Result<(), S::Refusal>
+    requires { 41 ≤ S.room sink.old }
+    ensures text { OnOk result (S.holds sink.old []
+        → S.holds sink.new ((tag ∷ []) ++ subject_bytes subject.now)) }
+    ensures room { OnOk result (S.room sink.old ≤ S.room sink.new + 41) }
+    ensures place { S.place sink.new ≡ S.place sink.old }
+    ensures typed { OnOk result (IsSubject subject.now) }
 {
-    let mut text = Vec::with_capacity(alloc, size)?;
-    text.put(&[tag])?;
-    text.put(&digest.0)?;
-    text.put(&round.get().to_be_bytes()[2..])?;
-    text.put(&author.to_be_bytes())?;
-    Ok(text)
+    sink.put(&[tag])?;
+    sink.put(&subject.bytes())
 }
 
-fn put_seals(text: &mut Vec<u8>, seals: &[Seal]) -> Result<(), AllocError>
-    ensures text { OnOk result (text.new.items ≡ text.old.items ++ flat_map seal_bytes seals.now) }
+fn put_seals<S: Sink>(sink: &mut S, seals: &[Seal]) -> Result<(), S::Refusal>
+    requires { 66 * length seals.now ≤ S.room sink.old }
+    ensures text { OnOk result ((text : List ℕ) → S.holds sink.old text
+        → S.holds sink.new (text ++ flat_map seal_bytes seals.now)) }
+    ensures place { S.place sink.new ≡ S.place sink.old }
     ensures typed { OnOk result (All IsSeal seals.now) }
 {
     for seal in seals {
-        text.put(&seal.signer.to_be_bytes())?;
-        text.put(&seal.signature.0)?;
+        sink.put(&seal.signer.to_be_bytes())?;
+        sink.put(&seal.signature.0)?;
     }
     Ok(())
 }
 
-/// The text of the message of a certificate that fits.
-pub(super) fn encode_certificate_message(
-    alloc: Global,
-    certificate: &Certificate,
-) -> Result<Vec<u8>, AllocError>
-    requires { CertificateFits certificate.now }
-    ensures { IfOk result (λ v. Spells v.items (Message.Certificate certificate.now)) }
+fn put_certificate<S: Sink>(sink: &mut S, certificate: &Certificate) -> Result<(), S::Refusal>
+    requires fits { CertificateFits certificate.now }
+    requires room { certificate_size certificate.now ≤ S.room sink.old }
+    ensures text { OnOk result (S.holds sink.old []
+        → S.holds sink.new (message (Message.Certificate certificate.now))) }
+    ensures place { S.place sink.new ≡ S.place sink.old }
+    ensures typed { OnOk result (IsCertificate certificate.now) }
 {
     let seals = certificate.votes.as_slice();
-    let mut text = subject_text(
-        alloc,
-        1 + SUBJECT_BYTES + 2 + SEAL_BYTES * seals.len(),
-        CERTIFICATE_TAG,
-        &certificate.digest,
-        certificate.round,
-        certificate.author,
-    )?;
-    text.put(&(seals.len() as u16).to_be_bytes())?;
-    put_seals(&mut text, seals)?;
-    Ok(text)
+    put_subject(sink, CERTIFICATE_TAG, &certificate.subject())?;
+    sink.put(&(seals.len() as u16).to_be_bytes())?;
+    put_seals(sink, seals)
 }
 
-/// The text of a vote's message.
-pub(super) fn encode_vote_message(alloc: Global, vote: &Vote) -> Result<Vec<u8>, AllocError>
-    ensures { IfOk result (λ v. Spells v.items (Message.Vote vote.now)) }
+fn put_vote<S: Sink>(sink: &mut S, vote: &Vote) -> Result<(), S::Refusal>
+    requires { vote_size ≤ S.room sink.old }
+    ensures text { OnOk result (S.holds sink.old []
+        → S.holds sink.new (message (Message.Vote vote.now))) }
+    ensures place { S.place sink.new ≡ S.place sink.old }
+    ensures typed { OnOk result (IsVote vote.now) }
 {
-    let mut text = subject_text(
-        alloc,
-        1 + SUBJECT_BYTES + SEAL_BYTES,
-        VOTE_TAG,
-        &vote.digest,
-        vote.round,
-        vote.author,
-    )?;
-    text.put(&vote.signer.to_be_bytes())?;
-    text.put(&vote.signature.0)?;
-    Ok(text)
+    put_subject(sink, VOTE_TAG, &vote.subject())?;
+    sink.put(&vote.signer.to_be_bytes())?;
+    sink.put(&vote.signature.0)
+}
+
+impl Certificate {
+    /// The text of its message. The certificate must fit (`Certificate::fits`). `NoMemory` if the allocation fails.
+    pub fn message(&self, alloc: Global) -> Result<Vec<u8>, NoMemory>
+        requires { CertificateFits self.now }
+        ensures { IfOk result (λ v. Spells v.items (Message.Certificate self.now)) }
+    {
+        let mut text = Vec::with_capacity(alloc, self.message_size())?;
+        put_certificate(&mut text, self)?;
+        Ok(text)
+    }
+
+    /// Writes the text of its message to the front of the buffer. The certificate must fit (`Certificate::fits`), and the buffer
+    /// must have at least `Certificate::message_size` bytes. It makes no allocation.
+    pub fn write_message(&self, buffer: &mut [u8])
+        requires fits { CertificateFits self.now }
+        requires room { certificate_size self.now ≤ length buffer.old }
+        ensures { Spells (take (certificate_size self.now) buffer.new) (Message.Certificate self.now) }
+    {
+        let mut front = Front { buffer, filled: 0 };
+        let Ok(()) = put_certificate(&mut front, self);
+    }
+}
+
+impl Vote {
+    /// The text of its message. `NoMemory` if the allocation fails.
+    pub fn message(&self, alloc: Global) -> Result<Vec<u8>, NoMemory>
+        ensures { IfOk result (λ v. Spells v.items (Message.Vote self.now)) }
+    {
+        let mut text = Vec::with_capacity(alloc, self.message_size())?;
+        put_vote(&mut text, self)?;
+        Ok(text)
+    }
+
+    /// Writes the text of its message to the front of the buffer, which must have at least `Vote::message_size` bytes. It makes
+    /// no allocation.
+    pub fn write_message(&self, buffer: &mut [u8])
+        requires { vote_size ≤ length buffer.old }
+        ensures { Spells (take vote_size buffer.new) (Message.Vote self.now) }
+    {
+        let mut front = Front { buffer, filled: 0 };
+        let Ok(()) = put_vote(&mut front, self);
+    }
 }

@@ -3,7 +3,7 @@ ghost use Rattle.std.specs.Prelude.{◌≡◌, ◌+◌, ◌<◌, IfOk};
 ghost use Rattle.nw_model.specs.Missing.{AreFirstWanted, AreMissingOf, ListsExactly, Wants, wanted_cmp};
 
 use super::Dag;
-use crate::waits::named_by;
+use crate::waits::{named_by, parents_round};
 use nw_codec::Block;
 use nw_digest::{Digest, NoMemory, Round, Sequence};
 use nw_model::Wanted;
@@ -44,10 +44,7 @@ fn unmet_parents(alloc: Global, held: &StateTables, block: &Block) -> Result<Vec
     ensures { IfOk result
         (λ missing. ListsExactly wanted_cmp (Wants held.now.state block.now) missing.items) }
 {
-    if block.round <= held.floor() {
-        return Ok(Vec::new(alloc));
-    }
-    match block.round.before() {
+    match parents_round(held, block) {
         None => Ok(Vec::new(alloc)),
         Some(before) => {
             let missing = unmet_among(alloc, held, before, block)?;

@@ -29,7 +29,7 @@ impl Dag {
         self.waits
             .completions
             .reserve(&self.held, &self.waits.missing)?;
-        self.waits.want_parents(&self.held, block.get(), digest)?;
+        self.waits.add_parents(&self.held, block.get(), digest)?;
         if let Err(refused) = self.held.put_block(digest, owner, *vote) {
             self.waits.forget(digest);
             return Err(refused);
@@ -71,15 +71,14 @@ impl Dag {
         ensures bounds { self.new.bounds ≡ self.old.bounds }
         ensures unchanged { OnErr result (self.new ≡ self.old) }
     {
-        let CollectReply::Raised { dropped: _ } = reply else {
+        let CollectReply::Raised { dropped } = reply else {
             return Ok(());
         };
         let holders = self.held.digests_up_to(round)?;
         let complete = self.waits.complete_below(&self.held, &holders, round);
-        let blocks = self.held.blocks();
         self.held.raise(round, &holders);
-        let dropped = blocks - self.held.blocks();
-        self.waits.collect(&self.held, &holders, dropped - complete);
+        self.waits
+            .collect(&self.held, &holders, *dropped as usize - complete);
         Ok(())
     }
 }

@@ -34,7 +34,7 @@ impl Waits {
 
     /// Lists the digests that are ready.
     fn add_ready(&mut self, held: &StateTables, digests: &[Digest])
-        requires tally { HasPendingCount held.now.state self.old.missing.lacking digests.now
+        requires pending { HasPendingCount held.now.state self.old.missing.lacking digests.now
             self.old.completions.pending }
         requires once { IsDistinct (eq_by_cmp digest_cmp) digests.now }
         ensures unmet { self.new.missing.unmet ≡ self.old.missing.unmet }
@@ -51,7 +51,7 @@ impl Waits {
 
     /// Promotes the digest: no block lacks its block from now on, and the blocks that become ready as a result are listed.
     fn promote(&mut self, held: &StateTables, digest: Digest)
-        requires tally { HasPendingCount held.now.state self.old.missing.lacking [] self.old.completions.pending }
+        requires pending { HasPendingCount held.now.state self.old.missing.lacking [] self.old.completions.pending }
         requires stands { Stands held.now.state digest }
         requires unmet { AreNotMet held.now.state self.old.missing.unmet }
         ensures unmet { self.new.missing.unmet ≡ self.old.missing.unmet }
@@ -61,7 +61,7 @@ impl Waits {
             ≡ length self.old.completions.fresh.items + self.old.completions.pending }
     {
         if let Some(wanted) = held.name(digest) {
-            let holders = self.missing.satisfy(&wanted);
+            let holders = self.missing.drop_parent(&wanted);
             self.add_ready(held, holders.as_slice());
         }
     }

@@ -48,7 +48,7 @@ impl Waits {
 
     /// Releases the holder: it lacks nothing from now on, and is listed if it becomes ready as a result.
     fn release(&mut self, held: &StateTables, holder: Digest)
-        requires tally { HasPendingCount held.now.state self.old.missing.lacking [] self.old.completions.pending }
+        requires pending { HasPendingCount held.now.state self.old.missing.lacking [] self.old.completions.pending }
         ensures unmet { self.new.missing.unmet ≡ without_holder self.old.missing.unmet holder }
         ensures lacking { self.new.missing.lacking ≡ without_holder self.old.missing.lacking holder }
         ensures added { AppendsThose (StandsButLacks held.now.state self.old.missing.lacking)
@@ -65,7 +65,7 @@ impl Waits {
 
     /// Releases the holders: they lack nothing from now on, and those that become ready as a result are listed.
     fn release_each(&mut self, held: &StateTables, holders: &[Digest])
-        requires tally { HasPendingCount held.now.state self.old.missing.lacking [] self.old.completions.pending }
+        requires pending { HasPendingCount held.now.state self.old.missing.lacking [] self.old.completions.pending }
         requires once { IsDistinct (eq_by_cmp digest_cmp) holders.now }
         ensures unmet { AreReleased holders.now self.old.missing.unmet self.new.missing.unmet }
         ensures lacking { AreReleased holders.now self.old.missing.lacking self.new.missing.lacking }

@@ -2,11 +2,11 @@
 ghost use Rattle.std.specs.Prelude.{◌≡◌, None, Some, is_some, if◌then◌else◌};
 ghost use Rattle.std.specs.Option.{option_and_then, option_copied};
 ghost use Rattle.nw_model.specs.State.{certificate_slot, subject_slot};
-ghost use Rattle.nw_model.specs.Step.{write_reply, asked_write_reply, asked_certify_reply, has_other_slot, is_digest, is_held_block};
+ghost use Rattle.nw_model.specs.Step.{write_reply, asked_write_reply, asked_certify_reply, has_other_slot, is_digest, is_held_block, is_slot, is_too_far};
 
 use super::StateTables;
 use nw_codec::{Block, Certificate, Subject};
-use nw_digest::{Digest, Shared};
+use nw_digest::{Digest, Round, Shared};
 use nw_model::{CertifyReply, WriteReply};
 
 impl StateTables {
@@ -18,6 +18,13 @@ impl StateTables {
             WriteReply::Held if !self.holds_block(digest, block) => WriteReply::Clash,
             reply => reply,
         }
+    }
+
+    /// Whether the round is at or above the garbage round plus the window.
+    fn is_too_far(&self, round: Round) -> bool
+        ensures { result ≡ is_too_far self.now.bounds self.now.state round }
+    {
+        round.get() >= self.floor.get() + u64::from(self.window)
     }
 
     /// Whether this block is held under the digest.
@@ -37,7 +44,7 @@ impl StateTables {
         if subject.round < self.floor {
             return WriteReply::Collected(self.floor);
         }
-        if subject.round.get() >= self.floor.get() + u64::from(self.window) {
+        if self.is_too_far(subject.round) {
             return WriteReply::TooFar;
         }
         if self.block(&subject.digest).is_some() {
@@ -66,12 +73,12 @@ impl StateTables {
         if subject.round < self.floor {
             return CertifyReply::Collected(self.floor);
         }
-        if subject.round.get() >= self.floor.get() + u64::from(self.window) {
+        if self.is_too_far(subject.round) {
             return CertifyReply::TooFar;
         }
         if let Some(held) = self.certificate(&subject.digest) {
             let held = held.get();
-            return if (held.round, held.author) == (subject.round, subject.author) {
+            return if is_in_slot(held.round, held.author, subject) {
                 CertifyReply::Already
             } else {
                 CertifyReply::Misfit
@@ -79,7 +86,7 @@ impl StateTables {
         }
         if let Some(block) = self.block(&subject.digest) {
             let block = block.get();
-            if (block.round, block.author) != (subject.round, subject.author) {
+            if !is_in_slot(block.round, block.author, subject) {
                 return CertifyReply::Misfit;
             }
         }
@@ -102,9 +109,16 @@ fn is_misfit(certificate: Option<&Shared<Certificate>>, subject: &Subject) -> bo
         None => false,
         Some(certificate) => {
             let certificate = certificate.get();
-            (certificate.round, certificate.author) != (subject.round, subject.author)
+            !is_in_slot(certificate.round, certificate.author, subject)
         }
     }
+}
+
+/// Whether this round and author are the subject's.
+fn is_in_slot(round: Round, author: u16, subject: &Subject) -> bool
+    ensures { result ≡ is_slot (round, author) (subject_slot subject.now) }
+{
+    (round, author) == (subject.round, subject.author)
 }
 
 /// The first digest of a slot, if it is another digest and this one has no certificate.

@@ -4,42 +4,17 @@ use super::*;
 /// The number of generations of a ticket's view, the number of blocks that the ticket lists, and whether the view has the parent.
 type Seen = (usize, usize, bool);
 
-/// What a book does between two tickets for a child, and what the second ticket then shows.
-struct Case {
-    shows: &'static str,
-    collects: bool,
-    compacts: bool,
-    later: Seen,
-}
+/// What a case shows, whether the book collects the parent and is compacted between two tickets, and what the second ticket then shows.
+type Case = (&'static str, bool, bool, Seen);
 
 /// What the first ticket shows, whatever the book does.
 const BEFORE: Seen = (2, 2, true);
 
 const CASES: [Case; 4] = [
-    Case {
-        shows: "a view of two blocks that were opened one after the other has two parts",
-        collects: false,
-        compacts: false,
-        later: (2, 2, true),
-    },
-    Case {
-        shows: "after a collection the view still has both blocks",
-        collects: true,
-        compacts: false,
-        later: (2, 1, true),
-    },
-    Case {
-        shows: "after compact a view has one part",
-        collects: false,
-        compacts: true,
-        later: (1, 2, true),
-    },
-    Case {
-        shows: "after compact a view has no collected block",
-        collects: true,
-        compacts: true,
-        later: (1, 1, false),
-    },
+    ("each opening adds a part", false, false, (2, 2, true)),
+    ("a view keeps a collected block", true, false, (2, 1, true)),
+    ("compact joins the parts", false, true, (1, 2, true)),
+    ("compact drops a collected block", true, true, (1, 1, false)),
 ];
 
 /// What the ticket shows.
@@ -80,11 +55,11 @@ fn seen_later(
     chain: &[Link; 2],
     case: &Case,
 ) -> Option<Seen> {
-    let [parent, child] = chain;
-    if case.collects && !are_made(book, alloc, &[parent.collect()]) {
+    let ([parent, child], (_, collects, compacts, _)) = (chain, case);
+    if *collects && !are_made(book, alloc, &[parent.collect()]) {
         return None;
     }
-    if case.compacts && book.compact(alloc).is_err() {
+    if *compacts && book.compact(alloc).is_err() {
         return None;
     }
     let later = open(book, alloc, child.digest())?;
@@ -104,8 +79,8 @@ fn seen_anew(alloc: Global, chain: &[Link; 2], case: &Case) -> Result<Option<[Se
 /// The first case whose tickets do not show what it expects, if there is one.
 fn first_other(alloc: Global, chain: &[Link; 2]) -> Result<Option<&'static str>, Fail> {
     for case in &CASES {
-        if seen_anew(alloc, chain, case)? != Some([BEFORE, case.later]) {
-            return Ok(Some(case.shows));
+        if seen_anew(alloc, chain, case)? != Some([BEFORE, case.3]) {
+            return Ok(Some(case.0));
         }
     }
     Ok(None)

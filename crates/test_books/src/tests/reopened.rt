@@ -4,11 +4,6 @@ use nw_book::Agreement;
 use nw_model::{Reply, WriteReply};
 use samples::block_with;
 
-/// The reopened book.
-fn reopened(book: Book<DemoScheme>, alloc: Global) -> Option<Book<DemoScheme>> {
-    book.reopen(alloc).ok()
-}
-
 /// The replies to the writes of the other block and of the first one, and the front of the last answer.
 fn answers(
     book: &mut Book<DemoScheme>,
@@ -64,7 +59,7 @@ fn goes_on(
     other: &CheckedBlock<DemoScheme>,
     first: &Link,
 ) -> Option<Book<DemoScheme>> {
-    let mut book = reopened(book, alloc)?;
+    let mut book = book.reopen(alloc).ok()?;
     match votes_for_none(&mut book, alloc, other, first) {
         Ok(true) => Some(book),
         _ => {
@@ -91,16 +86,10 @@ fn goes_on_twice(
     Ok(goes_on(alloc, book, other, first).is_some())
 }
 
-/// Another block of the slot of a chain's first block.
-fn other_block(alloc: Global) -> Result<CheckedBlock<DemoScheme>, Fail> {
-    let one = committee(alloc, 1)?;
-    block_with(alloc, &one, b"x")
-}
-
 #[test]
 fn a_reopened_book_votes_for_no_second_block_of_a_slot(rt: HostRuntime) -> Result<(), Fail> {
+    let other = block_with(rt.alloc(), &committee(rt.alloc(), 1)?, b"x")?;
     let first = Link::new(rt.alloc(), 0, &[])?;
-    let other = other_block(rt.alloc())?;
     let goes_on = goes_on_twice(rt.alloc(), &other, &first);
     drop(first);
     drop(other);
@@ -136,7 +125,7 @@ fn opened_later(
     alloc: Global,
     digest: Digest,
 ) -> Option<Ticket<DemoScheme>> {
-    let mut book = reopened(book, alloc)?;
+    let mut book = book.reopen(alloc).ok()?;
     let ticket = open(&mut book, alloc, digest);
     drop(book);
     ticket

@@ -1,6 +1,6 @@
 //! Runs of moves and all their answers.
 use super::*;
-use nw_book::{Answer, Block, Cause, Run, Stop};
+use nw_book::{Answer, Block, Cause, Stop};
 use nw_model::{CertifyReply, CollectReply, Reply, WriteReply};
 
 /// The answers to moves before a stop, in order, with the places in the chain of the blocks that each walk lists.
@@ -64,15 +64,6 @@ fn are_answers(given: &[Answer<DemoScheme>], chain: &[Link; 2], expected: Answer
     given.len() == expected.len()
 }
 
-/// Whether the run has these answers in order, and then stopped at a missing ticket.
-fn has_answers(run: &Run<DemoScheme>, chain: &[Link; 2], answers: Answers) -> bool {
-    let stop = Stop {
-        at: answers.len(),
-        cause: Cause::NoTicket,
-    };
-    run.stop == Some(stop) && are_answers(run.answers.as_slice(), chain, answers)
-}
-
 /// Whether a run of the moves in a new book has these answers and then stops at a missing ticket.
 fn is_answered(
     alloc: Global,
@@ -83,9 +74,13 @@ fn is_answered(
     let mut book = book_of_one(alloc, LIMITS)?;
     let run = book.run(alloc, moves);
     drop(book);
-    let has_answers = has_answers(&run, chain, answers);
+    let stop = Stop {
+        at: answers.len(),
+        cause: Cause::NoTicket,
+    };
+    let is_answered = run.stop == Some(stop) && are_answers(run.answers.as_slice(), chain, answers);
     drop(run);
-    Ok(has_answers)
+    Ok(is_answered)
 }
 
 /// Whether the run with late walks is answered.

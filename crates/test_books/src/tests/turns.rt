@@ -73,12 +73,6 @@ const LIMITED: [([u32; 4], Option<BookError>); 10] = [
     ([1, 1, 1, 257], Some(BookError::BadLimits)),
 ];
 
-/// The error of a book with the limits, if there is one.
-fn refusal(alloc: Global, limits: Limits) -> Result<Option<BookError>, Fail> {
-    let one = committee(alloc, 1)?;
-    Ok(Book::<DemoScheme>::new(alloc, one, limits).err())
-}
-
 #[test]
 fn bad_limits(rt: HostRuntime) -> Result<(), Fail> {
     for ([blocks, events, window, sessions], why) in LIMITED {
@@ -88,7 +82,8 @@ fn bad_limits(rt: HostRuntime) -> Result<(), Fail> {
             window,
             sessions,
         };
-        assert_eq!(rt; refusal(rt.alloc(), limits)?, why, "{limits:?}");
+        let book = Book::<DemoScheme>::new(rt.alloc(), committee(rt.alloc(), 1)?, limits);
+        assert_eq!(rt; book.err(), why, "{limits:?}");
     }
     Ok(())
 }

@@ -1,9 +1,13 @@
 //! Messages with one altered byte.
 use super::signed::{block, certificate};
 use super::*;
+use nw_codec::DecodeError::{
+    Short, Tag, TooManyParents, TooManyTransactions, TooManyVotes, Trailing, TransactionTooLong,
+    Version, VoteOrder,
+};
 
-/// A change of one byte: what it shows, the place of the byte, counted from 0, the new byte, and the result of the check.
-type Change = (&'static str, usize, u8, Found);
+/// A change of one byte: what it shows, the place of the byte, counted from 0, the new byte, and the fault.
+type Change<F> = (&'static str, usize, u8, F);
 
 /// The result of checking the text with this byte at the place.
 fn altered(
@@ -63,7 +67,7 @@ fn count(
 
 #[test]
 fn each_byte_of_a_block_altered(rt: HostRuntime) -> Result<(), Fail> {
-    let one = members(rt.alloc(), &[1])?;
+    let one = committee(rt.alloc(), 1)?;
     let text = block(rt.alloc(), one.get(), 0)?;
     assert!(rt; judge(rt.alloc(), &one, &text)? == Found::Block);
     let fault = Found::BadBlock(BlockFault::Signature);
@@ -73,7 +77,7 @@ fn each_byte_of_a_block_altered(rt: HostRuntime) -> Result<(), Fail> {
 
 #[test]
 fn each_byte_of_a_certificate_altered(rt: HostRuntime) -> Result<(), Fail> {
-    let four = members(rt.alloc(), &[1; 4])?;
+    let four = committee(rt.alloc(), 4)?;
     let text = certificate(rt.alloc(), four.get())?;
     assert!(rt; judge(rt.alloc(), &four, &text)? == Found::Cert);
     let fault = Found::BadCert(CertFault::Signature { signer: 2 });
@@ -84,168 +88,75 @@ fn each_byte_of_a_certificate_altered(rt: HostRuntime) -> Result<(), Fail> {
     Ok(())
 }
 
-/// Changes of a block's message, under a committee of one.
-const OF_A_BLOCK: [Change; 11] = [
-    ("no kind of message", 0, 4, Found::BadText(DecodeError::Tag)),
-    (
-        "another version",
-        1,
-        2,
-        Found::BadText(DecodeError::Version),
-    ),
-    (
-        "an author who is no member",
-        3,
-        1,
-        Found::BadBlock(BlockFault::Author),
-    ),
-    (
-        "round 1 without parents",
-        9,
-        1,
-        Found::BadBlock(BlockFault::FewParents),
-    ),
-    (
-        "101 parents",
-        11,
-        101,
-        Found::BadText(DecodeError::TooManyParents),
-    ),
-    (
-        "1,025 transactions",
-        12,
-        4,
-        Found::BadText(DecodeError::TooManyTransactions),
-    ),
-    (
-        "no transaction",
-        13,
-        0,
-        Found::BadText(DecodeError::Trailing),
-    ),
-    (
-        "a transaction of 65,537 bytes",
-        15,
-        1,
-        Found::BadText(DecodeError::TransactionTooLong),
-    ),
-    (
-        "a transaction of no byte",
-        17,
-        0,
-        Found::BadText(DecodeError::Trailing),
-    ),
-    (
-        "a transaction of two bytes",
-        17,
-        2,
-        Found::BadText(DecodeError::Short),
-    ),
-    (
-        "another transaction",
-        18,
-        121,
-        Found::BadBlock(BlockFault::Signature),
-    ),
+/// Changes of a block that make it no message.
+const NO_BLOCKS: [Change<DecodeError>; 8] = [
+    ("no kind of message", 0, 4, Tag),
+    ("another version", 1, 2, Version),
+    ("101 parents", 11, 101, TooManyParents),
+    ("1,025 transactions", 12, 4, TooManyTransactions),
+    ("no transaction", 13, 0, Trailing),
+    ("a transaction of 65,537 bytes", 15, 1, TransactionTooLong),
+    ("a transaction of no byte", 17, 0, Trailing),
+    ("a transaction of two bytes", 17, 2, Short),
 ];
 
-/// Changes of a certificate's message, under a committee of four.
-const OF_A_CERTIFICATE: [Change; 16] = [
-    (
-        "a block of another version",
-        0,
-        1,
-        Found::BadText(DecodeError::Version),
-    ),
-    ("a vote", 0, 3, Found::BadText(DecodeError::Trailing)),
-    ("no kind of message", 0, 4, Found::BadText(DecodeError::Tag)),
-    (
-        "another digest",
-        1,
-        0,
-        Found::BadCert(CertFault::Signature { signer: 0 }),
-    ),
-    (
-        "another round",
-        38,
-        1,
-        Found::BadCert(CertFault::Signature { signer: 0 }),
-    ),
-    (
-        "another author",
-        40,
-        1,
-        Found::BadCert(CertFault::Signature { signer: 0 }),
-    ),
-    (
-        "an author who is no member",
-        40,
-        4,
-        Found::BadCert(CertFault::Author),
-    ),
-    (
-        "259 votes",
-        41,
-        1,
-        Found::BadText(DecodeError::TooManyVotes),
-    ),
-    (
-        "101 votes",
-        42,
-        101,
-        Found::BadText(DecodeError::TooManyVotes),
-    ),
-    ("two votes", 42, 2, Found::BadText(DecodeError::Trailing)),
-    ("four votes", 42, 4, Found::BadText(DecodeError::Short)),
-    (
-        "the second signer first",
-        44,
-        1,
-        Found::BadText(DecodeError::VoteOrder),
-    ),
-    (
-        "the second signer last",
-        176,
-        1,
-        Found::BadText(DecodeError::VoteOrder),
-    ),
-    (
-        "a signer who is no member",
-        176,
-        4,
-        Found::BadCert(CertFault::Signer),
-    ),
-    (
-        "another signer",
-        176,
-        3,
-        Found::BadCert(CertFault::Signature { signer: 3 }),
-    ),
+/// Changes of a block that break a rule of a committee of one.
+const BAD_BLOCKS: [Change<BlockFault>; 3] = [
+    ("an author who is no member", 3, 1, BlockFault::Author),
+    ("round 1 without parents", 9, 1, BlockFault::FewParents),
+    ("another transaction", 18, 121, BlockFault::Signature),
+];
+
+/// Changes of a certificate that make it no message.
+const NO_CERTIFICATES: [Change<DecodeError>; 9] = [
+    ("a block of another version", 0, 1, Version),
+    ("a vote", 0, 3, Trailing),
+    ("no kind of message", 0, 4, Tag),
+    ("259 votes", 41, 1, TooManyVotes),
+    ("101 votes", 42, 101, TooManyVotes),
+    ("two votes", 42, 2, Trailing),
+    ("four votes", 42, 4, Short),
+    ("the second signer first", 44, 1, VoteOrder),
+    ("the second signer last", 176, 1, VoteOrder),
+];
+
+/// Changes of a certificate that break a rule of a committee of four.
+const BAD_CERTIFICATES: [Change<CertFault>; 7] = [
+    ("another digest", 1, 0, CertFault::Signature { signer: 0 }),
+    ("another round", 38, 1, CertFault::Signature { signer: 0 }),
+    ("another author", 40, 1, CertFault::Signature { signer: 0 }),
+    ("an author who is no member", 40, 4, CertFault::Author),
+    ("a signer who is no member", 176, 4, CertFault::Signer),
+    ("another signer", 176, 3, CertFault::Signature { signer: 3 }),
     (
         "another signature of member 1",
         111,
         0,
-        Found::BadCert(CertFault::Signature { signer: 1 }),
+        CertFault::Signature { signer: 1 },
     ),
 ];
 
 #[test]
 fn each_field_altered(rt: HostRuntime) -> Result<(), Fail> {
-    let one = members(rt.alloc(), &[1])?;
+    let one = committee(rt.alloc(), 1)?;
     let text = block(rt.alloc(), one.get(), 0)?;
-    for (shows, place, byte, fault) in OF_A_BLOCK {
-        assert!(rt;
-            altered(rt.alloc(), &one, &text, place, byte)? == fault,
-            "{shows}"
-        );
+    for (shows, place, byte, fault) in NO_BLOCKS {
+        let found = altered(rt.alloc(), &one, &text, place, byte)?;
+        assert!(rt; found == Found::BadText(fault), "{shows}");
     }
-    let four = members(rt.alloc(), &[1; 4])?;
+    for (shows, place, byte, fault) in BAD_BLOCKS {
+        let found = altered(rt.alloc(), &one, &text, place, byte)?;
+        assert!(rt; found == Found::BadBlock(fault), "{shows}");
+    }
+    let four = committee(rt.alloc(), 4)?;
     let text = certificate(rt.alloc(), four.get())?;
-    for (shows, place, byte, fault) in OF_A_CERTIFICATE {
-        assert!(rt;
-            altered(rt.alloc(), &four, &text, place, byte)? == fault,
-            "{shows}"
-        );
+    for (shows, place, byte, fault) in NO_CERTIFICATES {
+        let found = altered(rt.alloc(), &four, &text, place, byte)?;
+        assert!(rt; found == Found::BadText(fault), "{shows}");
+    }
+    for (shows, place, byte, fault) in BAD_CERTIFICATES {
+        let found = altered(rt.alloc(), &four, &text, place, byte)?;
+        assert!(rt; found == Found::BadCert(fault), "{shows}");
     }
     Ok(())
 }

@@ -21,7 +21,7 @@ fn ends_exactly(alloc: Global, committee: &Shared<Committee>, text: &[u8]) -> Re
 
 #[test]
 fn cut_and_lengthened_messages_are_refused(rt: HostRuntime) -> Result<(), Fail> {
-    let four = members(rt.alloc(), &[1; 4])?;
+    let four = committee(rt.alloc(), 4)?;
     let block = block(rt.alloc(), four.get(), 0)?;
     let certificate = certificate(rt.alloc(), four.get())?;
     assert!(rt; ends_exactly(rt.alloc(), &four, &block)?, "a block");

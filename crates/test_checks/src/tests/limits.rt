@@ -36,34 +36,22 @@ const LARGEST: [usize; 16] = [
     65_536, 65_536, 65_536, 65_536, 65_536, 65_536, 65_536, 65_459,
 ];
 
+/// The result for a block over a limit.
+const OVER: Result<usize, EncodeError> = Err(EncodeError::OverLimit);
+
 #[test]
 fn sizes_at_the_limit(rt: HostRuntime) -> Result<(), Fail> {
     let mut larger = LARGEST;
     larger[15] = 65_460;
     let cases: [(&str, u16, &[usize], Result<usize, EncodeError>); 8] = [
         ("100 parents", 100, &[], Ok(3_413)),
-        ("101 parents", 101, &[], Err(EncodeError::OverLimit)),
+        ("101 parents", 101, &[], OVER),
         ("1,024 transactions", 0, &[0; 1_024], Ok(4_109)),
-        (
-            "1,025 transactions",
-            0,
-            &[0; 1_025],
-            Err(EncodeError::OverLimit),
-        ),
+        ("1,025 transactions", 0, &[0; 1_025], OVER),
         ("a transaction of 65,536 bytes", 0, &[65_536], Ok(65_553)),
-        (
-            "one of 65,537 bytes",
-            0,
-            &[65_537],
-            Err(EncodeError::OverLimit),
-        ),
+        ("one of 65,537 bytes", 0, &[65_537], OVER),
         ("a body of 1,048,576 bytes", 0, &LARGEST, Ok(1_048_576)),
-        (
-            "a body of one byte more",
-            0,
-            &larger,
-            Err(EncodeError::OverLimit),
-        ),
+        ("a body of one byte more", 0, &larger, OVER),
     ];
     for (shows, parents, lengths, size) in cases {
         assert!(rt; sized(rt.alloc(), parents, lengths) == size, "{shows}");

@@ -92,14 +92,13 @@ const BAD: [(&str, &str); 33] = [
 
 /// The description of a block's line.
 fn describe_block(alloc: Global, block: &BlockLine<'_>) -> Result<String, AllocError> {
-    let (name, author, round) = (block.name.as_str(), block.author, block.round.get());
+    let (name, author, round) = (block.name, block.author, block.round.get());
     let mut text = format!(in alloc; "block {name} of {author} in {round} over")?;
     for parent in &block.parents {
         text.push(' ')?;
         text.push_str(parent.as_str())?;
     }
-    let transactions = format!(in alloc; " with {:?}", block.transactions)?;
-    text.push_str(&transactions)?;
+    text.push_str(&format!(in alloc; " with {:?}", block.transactions)?)?;
     Ok(text)
 }
 
@@ -107,36 +106,23 @@ fn describe_block(alloc: Global, block: &BlockLine<'_>) -> Result<String, AllocE
 fn describe_request(alloc: Global, request: &Request<'_>) -> Result<String, AllocError> {
     match request {
         Request::Block(block) => describe_block(alloc, block),
-        Request::Body(name) => format!(in alloc; "body of {}", name.as_str()),
-        Request::Digest(name) => format!(in alloc; "digest of {}", name.as_str()),
+        Request::Body(name) => format!(in alloc; "body of {name}"),
+        Request::Digest(name) => format!(in alloc; "digest of {name}"),
         Request::Hash(word) => format!(in alloc; "hash {word:?}"),
-        Request::Write { name, signer } => format!(in alloc;
-            "write {} by {signer:?}",
-            name.as_str()
-        ),
-        Request::Read(name) => format!(in alloc; "read {}", name.as_str()),
-        Request::Certify { name, signers } => {
-            format!(in alloc; "certify {} by {signers:?}", name.as_str())
-        }
-        Request::Valid { name, signers } => {
-            format!(in alloc; "valid {} by {signers:?}", name.as_str())
-        }
-        Request::Gather { name, signers } => {
-            format!(in alloc; "gather {} by {signers:?}", name.as_str())
-        }
-        Request::Certificate(name) => format!(in alloc; "certificate of {}", name.as_str()),
-        Request::Causal(name) => format!(in alloc; "causal {}", name.as_str()),
-        Request::Open { ticket, name } => {
-            format!(in alloc; "open {} of {}", ticket.as_str(), name.as_str())
-        }
-        Request::Walk(ticket) => format!(in alloc; "walk {}", ticket.as_str()),
+        Request::Write { name, signer } => format!(in alloc; "write {name} by {signer:?}"),
+        Request::Read(name) => format!(in alloc; "read {name}"),
+        Request::Certify { name, signers } => format!(in alloc; "certify {name} by {signers:?}"),
+        Request::Valid { name, signers } => format!(in alloc; "valid {name} by {signers:?}"),
+        Request::Gather { name, signers } => format!(in alloc; "gather {name} by {signers:?}"),
+        Request::Certificate(name) => format!(in alloc; "certificate of {name}"),
+        Request::Causal(name) => format!(in alloc; "causal {name}"),
+        Request::Open { ticket, name } => format!(in alloc; "open {ticket} of {name}"),
+        Request::Walk(ticket) => format!(in alloc; "walk {ticket}"),
         Request::Collect(round) => format!(in alloc; "collect {}", round.get()),
         Request::Missing(most) => format!(in alloc; "missing {most}"),
-        Request::MissingOf(name) => format!(in alloc; "missing of {}", name.as_str()),
+        Request::MissingOf(name) => format!(in alloc; "missing of {name}"),
         Request::Status => format!(in alloc; "status"),
-        Request::Look { round, author } => {
-            format!(in alloc; "look in {} at {author}", round.get())
-        }
+        Request::Look { round, author } => format!(in alloc; "look in {} at {author}", round.get()),
         Request::LookRound(round) => format!(in alloc; "look in {}", round.get()),
         Request::Compact => format!(in alloc; "compact"),
         Request::Session(id) => format!(in alloc; "session {id}"),
@@ -160,16 +146,11 @@ fn describe(alloc: Global, line: &Line<'_>) -> Result<String, AllocError> {
     }
 }
 
-/// Whether the parsed line has this description.
-fn is_described(alloc: Global, line: &str, wanted: &str) -> Result<bool, Fail> {
-    let read = parse_line(alloc, line.as_bytes())?;
-    Ok(describe(alloc, &read)?.as_str() == wanted)
-}
-
 #[test]
 fn each_kind_of_line_is_read(rt: HostRuntime) -> Result<(), Fail> {
     for (line, wanted) in &LINES {
-        assert!(rt; is_described(rt.alloc(), line, wanted)?, "{line}");
+        let read = parse_line(rt.alloc(), line.as_bytes())?;
+        assert!(rt; describe(rt.alloc(), &read)?.as_str() == *wanted, "{line}");
     }
     Ok(())
 }

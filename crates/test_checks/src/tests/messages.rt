@@ -4,7 +4,8 @@ use nw_codec::{
     Block, Certificate, DecodeError, EncodeError, Message, Ref, Seal, Signature, Transactions,
     Vote, block_digest, decode_message, encode_body, encode_message,
 };
-use nw_digest::{Digest, Round, Sequence, digest_of};
+use nw_digest::{Digest, Sequence, digest_of};
+use samples::round;
 use std::alloc::{AllocError, Global};
 use std::test::Fail;
 
@@ -30,7 +31,7 @@ fn block(alloc: Global, parents: &[u16]) -> Result<Block, Fail> {
     transactions.push(b"x")?;
     Ok(Block {
         author: 0,
-        round: Round::new(u64::from(!parents.is_empty())).ok_or("a round has 48 bits")?,
+        round: round(u8::from(!parents.is_empty())),
         parents: Sequence::new(refs),
         transactions,
     })
@@ -70,7 +71,7 @@ pub(super) fn of_certificate(alloc: Global, signers: [u16; 3]) -> Result<(Messag
     }
     let certificate = Certificate {
         digest: Digest([9; 32]),
-        round: Round::new(5).ok_or("a round has 48 bits")?,
+        round: round(5),
         author: 258,
         votes: Sequence::new(votes),
     };
@@ -85,7 +86,7 @@ pub(super) fn of_vote(alloc: Global) -> Result<(Message, Vec<u8>), Fail> {
     text.extend_from_slice(&[4; 64])?;
     let vote = Vote {
         digest: Digest([9; 32]),
-        round: Round::new(5).ok_or("a round has 48 bits")?,
+        round: round(5),
         author: 258,
         signer: 7,
         signature: Signature([4; 64]),

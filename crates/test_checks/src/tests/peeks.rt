@@ -2,26 +2,23 @@
 use super::messages::{of_block, of_certificate, of_vote};
 use super::signed::{block, certificate, vote};
 use super::*;
-use nw_codec::{Message, Peek, Subject, decode_message, peek_message};
+use nw_codec::{Block, Message, Peek, decode_message, peek_message};
+
+/// What the front of the block's text must say.
+fn front_of_block(block: &Block) -> Peek {
+    Peek::Block {
+        round: block.round,
+        author: block.author,
+    }
+}
 
 /// What the front of the message's text must say.
 fn front_of(message: &Message) -> Peek {
     match message {
-        Message::Block { block, .. } => Peek::Block {
-            round: block.round,
-            author: block.author,
-        },
-        Message::Certificate(certificate) => Peek::Certificate(Subject {
-            digest: certificate.digest,
-            round: certificate.round,
-            author: certificate.author,
-        }),
+        Message::Block { block, .. } => front_of_block(block),
+        Message::Certificate(certificate) => Peek::Certificate(certificate.subject()),
         Message::Vote(vote) => Peek::Vote {
-            subject: Subject {
-                digest: vote.digest,
-                round: vote.round,
-                author: vote.author,
-            },
+            subject: vote.subject(),
             signer: vote.signer,
         },
     }
@@ -30,21 +27,8 @@ fn front_of(message: &Message) -> Peek {
 /// What the front of the text must say if the check found this. `None` if it found a fault.
 fn front_of_checked(checked: &Checked<DemoScheme>) -> Option<Peek> {
     match checked {
-        Checked::Block(checked) => {
-            let block = checked.block().get();
-            Some(Peek::Block {
-                round: block.round,
-                author: block.author,
-            })
-        }
-        Checked::Cert(checked) => {
-            let certificate = checked.certificate().get();
-            Some(Peek::Certificate(Subject {
-                digest: certificate.digest,
-                round: certificate.round,
-                author: certificate.author,
-            }))
-        }
+        Checked::Block(block) => Some(front_of_block(block.block().get())),
+        Checked::Cert(checked) => Some(Peek::Certificate(checked.certificate().get().subject())),
         Checked::Vote(vote) => Some(front_of(&Message::Vote(*vote))),
         Checked::BadText(_) | Checked::BadBlock(_) | Checked::BadCert(_) => None,
     }
@@ -96,7 +80,7 @@ fn a_front_is_that_of_the_decoded_message(rt: HostRuntime) -> Result<(), Fail> {
 
 #[test]
 fn a_front_is_that_of_the_checked_message(rt: HostRuntime) -> Result<(), Fail> {
-    let four = members(rt.alloc(), &[1; 4])?;
+    let four = committee(rt.alloc(), 4)?;
     let block = block(rt.alloc(), four.get(), 0)?;
     let certificate = certificate(rt.alloc(), four.get())?;
     let vote = vote(rt.alloc(), four.get())?;

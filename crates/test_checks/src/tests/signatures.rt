@@ -1,4 +1,5 @@
 //! Signed texts, and the demonstration scheme.
+use nw_codec::Subject;
 use nw_committee::Key;
 use nw_digest::{Digest, Round};
 use nw_sig::{DemoSigner, Scheme, Signer, text_of_block, text_of_vote};
@@ -8,7 +9,11 @@ use std::test::Fail;
 fn signed_texts_begin_with_four_letters(rt: HostRuntime) -> Result<(), Fail> {
     let round = Round::new(0x0102_0304_0506).ok_or("a round has 48 bits")?;
     let of_block = text_of_block(&Digest([7; 32]));
-    let of_vote = text_of_vote(&Digest([7; 32]), round, 0x0809);
+    let of_vote = text_of_vote(&Subject {
+        digest: Digest([7; 32]),
+        round,
+        author: 0x0809,
+    });
     assert!(rt; &of_block[..4] == b"NWBK".as_slice() && &of_block[4..] == [7; 32].as_slice());
     assert!(rt;
         &of_vote[..4] == b"NWVT".as_slice()

@@ -85,25 +85,7 @@ fn is_same(one: &Checked<DemoScheme>, other: &Checked<DemoScheme>) -> bool {
     }
 }
 
-/// Whether the answers are those of separate checks of the texts, and those of [`FIVE`].
-fn are_answers(
-    alloc: Global,
-    four: &Shared<Committee>,
-    texts: &[Vec<u8>],
-    answers: &[Checked<DemoScheme>],
-) -> Result<bool, NoMemory> {
-    for (place, (text, answer)) in texts.iter().zip(answers).enumerate() {
-        let separate = check_message(alloc, four, text)?;
-        let is_it = is_same(&separate, answer);
-        drop(separate);
-        if !is_it || FIVE.get(place) != Some(&found_in(answer)) {
-            return Ok(false);
-        }
-    }
-    Ok(true)
-}
-
-/// Whether there are `count` answers, and they are those of separate checks.
+/// Whether there are `count` answers, and they are those of separate checks of the texts, and those of [`FIVE`].
 fn are_separate(
     alloc: Global,
     four: &Shared<Committee>,
@@ -111,33 +93,19 @@ fn are_separate(
     answers: &[Checked<DemoScheme>],
 ) -> Result<bool, Fail> {
     let texts = five_texts(alloc, four.get())?;
-    let are_answers = are_answers(alloc, four, &texts, answers);
-    drop(texts);
-    Ok(are_answers? && answers.len() == usize::from(count))
-}
-
-/// Checks the first `count` texts with this many workers. Returns whether the answers are those of separate checks, or the fault.
-fn checked_under<G: Gate + Sync, R: Threads + Wait + Sync>(
-    rt: &R,
-    alloc: Global,
-    four: &Shared<Committee>,
-    count: u8,
-    workers: usize,
-    gate: &G,
-) -> Result<Result<bool, IntakeFault>, Fail> {
-    let mut texts = five_texts(alloc, four.get())?;
-    texts.truncate(usize::from(count));
-    match check_all(rt, alloc, four, texts, workers, gate) {
-        Ok(answers) => {
-            let are_separate = are_separate(alloc, four, count, &answers);
-            drop(answers);
-            Ok(Ok(are_separate?))
+    for (text, (answer, wanted)) in texts.iter().zip(answers.iter().zip(&FIVE)) {
+        let separate = check_message(alloc, four, text)?;
+        let is_it = is_same(&separate, answer);
+        drop(separate);
+        if !is_it || found_in(answer) != *wanted {
+            return Ok(false);
         }
-        Err(fault) => Ok(Err(fault)),
     }
+    Ok(answers.len() == usize::from(count))
 }
 
-/// Does what `checked_under` does, under a committee of four.
+/// Checks the first `count` texts with this many workers, under a committee of four. Returns whether the answers are those of separate
+/// checks, or the fault.
 fn checked_by<G: Gate + Sync, R: Threads + Wait + Sync>(
     rt: &R,
     alloc: Global,
@@ -145,10 +113,17 @@ fn checked_by<G: Gate + Sync, R: Threads + Wait + Sync>(
     workers: usize,
     gate: &G,
 ) -> Result<Result<bool, IntakeFault>, Fail> {
-    let four = members(alloc, &[1; 4])?;
-    let found = checked_under(rt, alloc, &four, count, workers, gate);
-    drop(four);
-    found
+    let four = committee(alloc, 4)?;
+    let mut texts = five_texts(alloc, four.get())?;
+    texts.truncate(usize::from(count));
+    match check_all(rt, alloc, &four, texts, workers, gate) {
+        Ok(answers) => {
+            let are_separate = are_separate(alloc, &four, count, &answers);
+            drop(answers);
+            Ok(Ok(are_separate?))
+        }
+        Err(fault) => Ok(Err(fault)),
+    }
 }
 
 #[test]
@@ -209,10 +184,9 @@ fn one_worker_does_not_pass_a_gate_that_waits_for_two(rt: HostRuntime) -> Result
 
 #[test]
 fn any_number_of_workers_gives_the_same_answers(rt: HostRuntime) -> Result<(), Fail> {
-    let cases = [(1, Ok(true)), (2, Ok(true)), (3, Ok(true)), (16, Ok(true))];
-    for (workers, wanted) in cases {
+    for workers in [1, 2, 3, 16] {
         let found = checked_by(&rt, rt.alloc(), 5, workers, &FreeGate)?;
-        assert_eq!(rt; found, wanted, "{workers}");
+        assert_eq!(rt; found, Ok(true), "{workers}");
     }
     Ok(())
 }

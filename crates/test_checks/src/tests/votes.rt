@@ -29,7 +29,7 @@ fn certificate(
 
 /// The fault of the certificate with these votes under a committee of four.
 fn fault_of(alloc: Global, signers: &[(u16, u16)]) -> Result<Option<CertFault>, Fail> {
-    let committee = members(alloc, &[1; 4])?;
+    let committee = committee(alloc, 4)?;
     let certificate = certificate(alloc, committee.get(), signers)?;
     if !certificate.fits() {
         return Err(Fail::from("the certificate breaks a limit"));

@@ -1,8 +1,8 @@
 //! Messages that OpenSSL signed, from their bytes to a causal read.
-use hex::FromHex;
+use super::key_of;
 use nw_book::{Book, Command, Limits};
 use nw_check::{CertFault, Checked, CheckedBlock, CheckedCert, check_message, check_message_by};
-use nw_committee::{Committee, Key};
+use nw_committee::Committee;
 use nw_digest::{Digest, Shared};
 use nw_ed25519::Ed25519;
 use nw_prepared::PreparedCommittee;
@@ -55,7 +55,7 @@ const FORGED: &str =
 fn committee(alloc: Global) -> Result<Shared<Committee>, Fail> {
     let mut keys = Vec::new(alloc);
     for key in KEYS {
-        keys.push(Key(<[u8; 32] as FromHex>::from_hex(key)?))?;
+        keys.push(key_of(key)?)?;
     }
     Ok(Shared::new(alloc, Committee::new(alloc, keys)?)?)
 }

@@ -3,32 +3,6 @@ use super::*;
 use nw_rounds::Rounds;
 use std::collections::{BTreeMap, BTreeSet};
 
-/// Makes the digest the first one of the slot if the slot has none. Returns whether it had none.
-fn put_first(
-    rounds: &mut Rounds<Global>,
-    slot: (Round, u16),
-    digest: Digest,
-) -> Result<bool, NoMemory> {
-    if rounds.first(slot.0, slot.1).is_some() {
-        return Ok(false);
-    }
-    rounds.put_first(slot.0, slot.1, digest)?;
-    Ok(true)
-}
-
-/// Certifies the digest for the slot if none is certified. Returns whether none was.
-fn put_certified(
-    rounds: &mut Rounds<Global>,
-    slot: (Round, u16),
-    digest: Digest,
-) -> Result<bool, NoMemory> {
-    if rounds.certified(slot.0, slot.1).is_some() {
-        return Ok(false);
-    }
-    rounds.put_certified(slot.0, slot.1, digest)?;
-    Ok(true)
-}
-
 /// Digests by round, author, and whether they are certified or first digests.
 type Slots = BTreeMap<(u64, u16, bool), Digest>;
 
@@ -65,12 +39,14 @@ fn step(
             slots.retain(|key, _digest| key.0 >= number);
         }
         1..24 => {
-            if put_first(rounds, slot, digest)? {
+            if rounds.first(slot.0, author).is_none() {
+                rounds.put_first(slot.0, author, digest)?;
                 slots.insert((number, author, false), digest)?;
             }
         }
         24..48 => {
-            if put_certified(rounds, slot, digest)? {
+            if rounds.certified(slot.0, author).is_none() {
+                rounds.put_certified(slot.0, author, digest)?;
                 slots.insert((number, author, true), digest)?;
             }
         }

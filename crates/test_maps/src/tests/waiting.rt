@@ -62,12 +62,7 @@ fn are_same(
     holder: Digest,
     most: u16,
 ) -> Result<bool, NoMemory> {
-    let mut missing = 0usize;
-    for pair in pairs {
-        if pair.1 == holder {
-            missing = missing.saturating_add(1);
-        }
-    }
+    let missing = pairs.iter().filter(|pair| pair.1 == holder).count();
     let mut expected = wanted_in(alloc, pairs)?;
     let count = expected.len();
     expected.truncate(usize::from(most));

@@ -34,64 +34,47 @@ fn bad_committees(rt: HostRuntime) -> Result<(), Fail> {
     Ok(())
 }
 
-/// Members with these weights, numbered from 0. Each has the key of its number.
-pub(super) fn members(alloc: Global, weights: &[u32]) -> Result<Vec<Member>, NoMemory> {
+/// Members with these weights. Each has the key of its number, which counts from 0, or of `last`, if that is less.
+pub(super) fn members(alloc: Global, weights: &[u32], last: u16) -> Result<Vec<Member>, NoMemory> {
     let mut members = Vec::new(alloc);
     for (number, weight) in (0u16..).zip(weights) {
         members.push(Member {
-            key: key(number),
+            key: key(number.min(last)),
             weight: *weight,
         })?;
     }
     Ok(members)
 }
 
-/// The quorum of a committee of these members, made while all allocations fail.
-fn quorum_of(alloc: Global, members: Vec<Member>) -> Result<u32, CommitteeFault> {
+/// The quorum of a committee of the members that `members` returns, made while all allocations fail.
+fn weighted(
+    alloc: Global,
+    weights: &[u32],
+    last: u16,
+) -> Result<Result<u32, CommitteeFault>, NoMemory> {
+    let members = retry!(NoMemory, members(alloc, weights, last))?;
     fail_allocations(alloc);
     let quorum = Committee::weighted(members).map(|made| made.quorum());
     allow_allocations(alloc);
-    quorum
-}
-
-/// The quorum of a committee of members with these weights, made while all allocations fail.
-fn weighted(alloc: Global, weights: &[u32]) -> Result<Result<u32, CommitteeFault>, NoMemory> {
-    let members = retry!(NoMemory, members(alloc, weights))?;
-    Ok(quorum_of(alloc, members))
-}
-
-/// Members with these weights. All of them have one key.
-fn namesakes(alloc: Global, weights: &[u32]) -> Result<Vec<Member>, NoMemory> {
-    let mut members = Vec::new(alloc);
-    for weight in weights {
-        members.push(Member {
-            key: key(1),
-            weight: *weight,
-        })?;
-    }
-    Ok(members)
+    Ok(quorum)
 }
 
 #[test]
 fn bad_weights(rt: HostRuntime) -> Result<(), Fail> {
-    let cases: [(&[u32], Result<u32, CommitteeFault>); 7] = [
-        (&[3, 1, 1, 1], Ok(5)),
-        (&[7, 2], Ok(7)),
-        (&[1_000_000; 100], Ok(66_666_667)),
-        (&[], Err(CommitteeFault::BadSize)),
-        (&[1; 101], Err(CommitteeFault::BadSize)),
-        (&[1_000_001], Err(CommitteeFault::BadWeight)),
-        (&[1, 0], Err(CommitteeFault::BadWeight)),
+    let cases: [(&[u32], u16, Result<u32, CommitteeFault>); 9] = [
+        (&[3, 1, 1, 1], 100, Ok(5)),
+        (&[7, 2], 100, Ok(7)),
+        (&[1_000_000; 100], 100, Ok(66_666_667)),
+        (&[], 100, Err(CommitteeFault::BadSize)),
+        (&[1; 101], 100, Err(CommitteeFault::BadSize)),
+        (&[1_000_001], 100, Err(CommitteeFault::BadWeight)),
+        (&[1, 0], 100, Err(CommitteeFault::BadWeight)),
+        // A repeated key is refused before a bad weight.
+        (&[1, 2], 0, Err(CommitteeFault::RepeatedKey)),
+        (&[0, 1_000_001], 0, Err(CommitteeFault::RepeatedKey)),
     ];
-    for (weights, wanted) in cases {
-        assert_eq!(rt; weighted(rt.alloc(), weights)?, wanted);
-    }
-    // A repeated key is refused before a bad weight.
-    let repeated: [&[u32]; 2] = [&[1, 2], &[0, 1_000_001]];
-    for weights in repeated {
-        let members = retry!(NoMemory, namesakes(rt.alloc(), weights))?;
-        let refused = quorum_of(rt.alloc(), members);
-        assert_eq!(rt; refused, Err(CommitteeFault::RepeatedKey));
+    for (weights, last, wanted) in cases {
+        assert_eq!(rt; weighted(rt.alloc(), weights, last)?, wanted);
     }
     Ok(())
 }

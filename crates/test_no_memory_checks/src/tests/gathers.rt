@@ -2,7 +2,7 @@
 use super::committees::members;
 use super::*;
 use nw_check::{Counted, FinishFault, Gather, GatherFault, StartFault};
-use nw_codec::{Seal, Vote};
+use nw_codec::Vote;
 use nw_digest::Digest;
 use nw_sig::DemoScheme;
 use samples::fallible::vote;
@@ -20,21 +20,24 @@ fn add(
 /// Asks the gatherer for its certificate. Returns whether the signers are 0, 1 and 2.
 fn finished(alloc: Global, gather: &Gather<DemoScheme>) -> Result<bool, FinishFault> {
     let checked = retry!(FinishFault::NoMemory, gather.finish(alloc))?;
-    let has_three = are_first_three(checked.certificate().get().votes.as_slice());
+    let has_three = match checked.certificate().get().votes.as_slice() {
+        [one, two, three] => [one.signer, two.signer, three.signer] == [0, 1, 2],
+        _ => false,
+    };
     drop(checked);
     Ok(has_three)
 }
 
-/// Whether these are the votes of signers 0, 1 and 2.
-fn are_first_three(votes: &[Seal]) -> bool {
-    match votes {
-        [one, two, three] => [one.signer, two.signer, three.signer] == [0, 1, 2],
-        _ => false,
-    }
-}
-
 /// The results of `add` for each of five votes, each with the result of `finish` after it.
 type Gathered = [(Result<Counted, GatherFault>, Result<bool, FinishFault>); 5];
+
+/// A new gatherer.
+fn gatherer(alloc: Global, four: &Shared<Committee>) -> Result<Gather<DemoScheme>, StartFault> {
+    retry!(
+        StartFault::NoMemory,
+        Gather::new(alloc, four, VOTED, Round::ZERO, 0)
+    )
+}
 
 /// The results of a new gatherer for votes of these signers.
 fn gathered(
@@ -42,10 +45,7 @@ fn gathered(
     four: &Shared<Committee>,
     signers: [u16; 5],
 ) -> Result<Gathered, StartFault> {
-    let mut gather = retry!(
-        StartFault::NoMemory,
-        Gather::new(alloc, four, VOTED, Round::ZERO, 0)
-    )?;
+    let mut gather = gatherer(alloc, four)?;
     let answers = signers.map(|signer| {
         let counted = add(&mut gather, four.get(), signer);
         (counted, finished(alloc, &gather))
@@ -56,7 +56,7 @@ fn gathered(
 
 /// The committee of four, made from members of weight 1.
 fn weighted_four(alloc: Global) -> Result<Shared<Committee>, NoMemory> {
-    match Committee::weighted(members(alloc, &[1; 4])?) {
+    match Committee::weighted(members(alloc, &[1; 4], 3)?) {
         Ok(four) => Shared::new(alloc, four),
         Err(_) => Err(NoMemory),
     }
@@ -99,35 +99,18 @@ fn uncounted(four: &Committee) -> [Vote; 6] {
     ]
 }
 
-/// A gatherer that counted the vote of member 0.
-fn gatherer(alloc: Global, four: &Shared<Committee>) -> Result<Gather<DemoScheme>, Fail> {
-    let mut gather = retry!(
-        StartFault::NoMemory,
-        Gather::new(alloc, four, VOTED, Round::ZERO, 0)
-    )?;
-    match add(&mut gather, four.get(), 0) {
-        Ok(_) => Ok(gather),
-        Err(fault) => {
-            drop(gather);
-            Err(Fail::from(fault))
-        }
-    }
-}
+/// Faults of `add` for six votes, of `finish`, and of `new`.
+type Refused = (
+    [Option<GatherFault>; 6],
+    Option<FinishFault>,
+    Option<StartFault>,
+);
 
-/// The gatherer's faults for these votes and for `finish`, and the fault of `new` for a block whose author is no member, while all
+/// The faults of a gatherer that counted the vote of member 0, and of a new one for a block whose author is no member, while all
 /// allocations fail.
-fn refused_votes(
-    alloc: Global,
-    four: &Shared<Committee>,
-) -> Result<
-    (
-        [Option<GatherFault>; 6],
-        Option<FinishFault>,
-        Option<StartFault>,
-    ),
-    Fail,
-> {
+fn refused_votes(alloc: Global, four: &Shared<Committee>) -> Result<Refused, Fail> {
     let mut gather = gatherer(alloc, four)?;
+    let counted = add(&mut gather, four.get(), 0);
     let votes = uncounted(four.get());
     fail_allocations(alloc);
     let faults = votes.map(|vote| gather.add(&vote).err());
@@ -135,6 +118,7 @@ fn refused_votes(
     let unstarted = Gather::<DemoScheme>::new(alloc, four, VOTED, Round::ZERO, 4).err();
     allow_allocations(alloc);
     drop(gather);
+    counted?;
     Ok((faults, unfinished, unstarted))
 }
 

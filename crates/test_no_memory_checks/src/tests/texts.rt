@@ -11,7 +11,7 @@ pub(super) fn text_of(alloc: Global, message: &Message) -> Result<Vec<u8>, Encod
 }
 
 /// The length of the encoded message. It must decode to the same message.
-fn encoded_length(alloc: Global, message: &Message) -> Result<usize, Fail> {
+fn length_of(alloc: Global, message: &Message) -> Result<usize, Fail> {
     let text = text_of(alloc, message)?;
     let read = retry!(DecodeError::NoMemory, decode_message(alloc, &text));
     let length = text.len();
@@ -38,17 +38,10 @@ fn messages_are_encoded_and_decoded(rt: HostRuntime) -> Result<(), Fail> {
 
 /// The lengths of the encoded messages of a block, a certificate and a vote.
 fn lengths(alloc: Global, four: &Committee) -> Result<[usize; 3], Fail> {
-    let block = length_of(alloc, block_message(alloc, four, 0)?)?;
-    let three = length_of(alloc, certificate_message(alloc, four, &[0, 1, 2])?)?;
-    let vote = length_of(alloc, Message::Vote(vote(four, VOTED, SLOT, 1)))?;
+    let block = length_of(alloc, &block_message(alloc, four, 0)?)?;
+    let three = length_of(alloc, &certificate_message(alloc, four, &[0, 1, 2])?)?;
+    let vote = length_of(alloc, &Message::Vote(vote(four, VOTED, SLOT, 1)))?;
     Ok([block, three, vote])
-}
-
-/// The length of the encoded message. Consumes the message.
-fn length_of(alloc: Global, message: Message) -> Result<usize, Fail> {
-    let length = encoded_length(alloc, &message);
-    drop(message);
-    length
 }
 
 /// The length of a block's encoded body.
@@ -74,10 +67,8 @@ pub(super) fn word(checked: &Checked<DemoScheme>) -> &'static str {
 }
 
 /// The word for the result of checking the message.
-fn found(alloc: Global, four: &Shared<Committee>, message: Message) -> Result<&'static str, Fail> {
-    let text = text_of(alloc, &message);
-    drop(message);
-    let text = text?;
+fn found(alloc: Global, four: &Shared<Committee>, message: &Message) -> Result<&'static str, Fail> {
+    let text = text_of(alloc, message)?;
     let checked = retry!(NoMemory, check_message(alloc, four, &text));
     drop(text);
     let checked = checked?;
@@ -100,18 +91,11 @@ fn texts_are_decoded_and_checked(rt: HostRuntime) -> Result<(), Fail> {
 type Words = (&'static str, &'static str, &'static str, &'static str);
 
 /// The words for a block, a forged block, a certificate with three votes and one with two.
-fn words(alloc: Global, four: &Shared<Committee>) -> Result<Words, Fail> {
-    let block = found(alloc, four, block_message(alloc, four.get(), 0)?)?;
-    let forged = found(alloc, four, block_message(alloc, four.get(), 1)?)?;
-    let three = found(
-        alloc,
-        four,
-        certificate_message(alloc, four.get(), &[0, 1, 2])?,
-    )?;
-    let two = found(
-        alloc,
-        four,
-        certificate_message(alloc, four.get(), &[0, 1])?,
-    )?;
+fn words(alloc: Global, under: &Shared<Committee>) -> Result<Words, Fail> {
+    let four = under.get();
+    let block = found(alloc, under, &block_message(alloc, four, 0)?)?;
+    let forged = found(alloc, under, &block_message(alloc, four, 1)?)?;
+    let three = found(alloc, under, &certificate_message(alloc, four, &[0, 1, 2])?)?;
+    let two = found(alloc, under, &certificate_message(alloc, four, &[0, 1])?)?;
     Ok((block, forged, three, two))
 }

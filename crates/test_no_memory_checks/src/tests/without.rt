@@ -2,8 +2,8 @@
 use super::*;
 use nw_check::{BlockFault, CertFault, Checked, check_block, check_cert, check_message, valid};
 use nw_codec::{
-    Block, DecodeError, EncodeError, Ref, Signature, Transactions, Vote, block_digest,
-    decode_message, encode_block, encode_body, encode_message,
+    Block, DecodeError, EncodeError, Ref, Signature, Transactions, block_digest, decode_message,
+    encode_body, encode_message,
 };
 use nw_digest::digest_of;
 use nw_sig::{DemoScheme, DemoSigner, Scheme, Signer, text_of_block, text_of_vote};
@@ -75,32 +75,23 @@ fn have_faults(alloc: Global, four: &Shared<Committee>) -> Result<bool, NoMemory
     Ok(fault_in(alloc, four, &long) == Some(DecodeError::BodyTooLong))
 }
 
-/// The vote in the text, checked while all allocations fail. `None` if the check finds no vote.
-fn vote_in(alloc: Global, four: &Shared<Committee>, text: &[u8]) -> Option<Vote> {
-    fail_allocations(alloc);
-    let checked = check_message::<DemoScheme>(alloc, four, text);
-    allow_allocations(alloc);
-    match &checked {
-        Ok(Checked::Vote(found)) => Some(*found),
-        _ => None,
-    }
-}
-
-/// Whether the check of a vote's message returns the vote.
+/// Whether the check of a vote's message returns the vote without an allocation.
 fn finds_a_vote(alloc: Global, four: &Shared<Committee>) -> Result<bool, Fail> {
-    let message = Message::Vote(vote(four.get(), VOTED, SLOT, 1));
-    let text = texts::text_of(alloc, &message)?;
-    Ok(vote_in(alloc, four, &text) == Some(vote(four.get(), VOTED, SLOT, 1)))
+    let vote = vote(four.get(), VOTED, SLOT, 1);
+    let text = texts::text_of(alloc, &Message::Vote(vote))?;
+    fail_allocations(alloc);
+    let checked = check_message::<DemoScheme>(alloc, four, &text);
+    allow_allocations(alloc);
+    Ok(matches!(&checked, Ok(Checked::Vote(found)) if *found == vote))
 }
 
 /// A block of the slot, with parents of these authors.
 fn block_over(alloc: Global, slot: Slot, authors: &[u16]) -> Result<Block, NoMemory> {
     let mut parents = Vec::new(alloc);
     for author in authors {
-        let digest = VOTED;
         parents.push(Ref {
             author: *author,
-            digest,
+            digest: VOTED,
         })?;
     }
     unsigned(alloc, slot, &parents, b"x")
@@ -118,12 +109,39 @@ fn are_over_limit(alloc: Global, four: &Committee) -> Result<bool, Fail> {
     let refused = [
         Transactions::new(alloc).push(&long).err(),
         encode_body(alloc, &block).err(),
-        encode_block(alloc, &block, &signature).err(),
         encode_message(alloc, &certificate).err(),
         encode_message(alloc, &Message::Block { block, signature }).err(),
     ];
     allow_allocations(alloc);
-    Ok(!fits && refused == [Some(EncodeError::OverLimit); 5])
+    Ok(!fits && refused == [Some(EncodeError::OverLimit); 4])
+}
+
+/// Whether a block, its body and a vote are written to a buffer, as they are encoded, without an allocation.
+fn are_written(alloc: Global, four: &Committee) -> Result<bool, Fail> {
+    let block = retry!(NoMemory, block_over(alloc, SLOT, &[]))?;
+    let (signature, vote) = (Signature([7; 64]), vote(four, VOTED, SLOT, 1));
+    if !block.fits() {
+        drop(block);
+        return Ok(false);
+    }
+    if block.body_size() > 256 || block.message_size() > 256 {
+        drop(block);
+        return Ok(false);
+    }
+    let body = retry!(NoMemory, block.body(alloc))?;
+    let message = retry!(NoMemory, block.message(alloc, &signature))?;
+    let voted = retry!(NoMemory, vote.message(alloc))?;
+    let mut buffers = [[9; 256]; 3];
+    fail_allocations(alloc);
+    block.write_body(&mut buffers[0]);
+    block.write_message(&signature, &mut buffers[1]);
+    vote.write_message(&mut buffers[2]);
+    allow_allocations(alloc);
+    Ok(
+        buffers[0].starts_with(&body)
+            && buffers[1].starts_with(&message)
+            && buffers[2].starts_with(&voted),
+    )
 }
 
 /// Whether digests, signed texts and signatures are made, and signatures are verified, without an allocation.
@@ -135,7 +153,7 @@ fn is_signed(alloc: Global, four: &Committee) -> Result<bool, Fail> {
     let (fits, digest) = (block.fits(), digest_of(&body));
     let is_its_digest = fits && block_digest(&block) == digest;
     let (signer, text) = (DemoSigner::new(key), text_of_block(&digest));
-    let other = text_of_vote(&digest, Round::ZERO, 0);
+    let other = text_of_vote(&block.subject(digest));
     let signature = signer.sign(&text);
     let is_verified = DemoScheme::verify(&signer.key(), &text, &signature)
         && !DemoScheme::verify(&key, &other, &signature);
@@ -165,29 +183,19 @@ const BLOCKS: [(u64, u16, &[u16], u16, BlockFault); 5] = [
     (1, 0, &[0, 1, 2], 1, BlockFault::Signature),
 ];
 
-/// The fault of a block, checked while all allocations fail.
-fn block_fault(
-    alloc: Global,
-    four: &Shared<Committee>,
-    block: Block,
-    signer: u16,
-) -> Option<BlockFault> {
-    let Some(signature) = signature(four.get(), &block, signer) else {
-        drop(block);
-        return None;
-    };
-    fail_allocations(alloc);
-    let fault = check_block::<DemoScheme>(alloc, four, block, signature).err();
-    allow_allocations(alloc);
-    fault
-}
-
-/// Whether each of [`BLOCKS`] has its fault.
+/// Whether each of [`BLOCKS`] has its fault. They are checked while all allocations fail.
 fn blocks_have_faults(alloc: Global, four: &Shared<Committee>) -> Result<bool, NoMemory> {
     for (number, author, authors, signer, fault) in BLOCKS {
         let slot = (Round::new(number).unwrap_or(Round::ZERO), author);
         let block = retry!(NoMemory, block_over(alloc, slot, authors))?;
-        if block_fault(alloc, four, block, signer) != Some(fault) {
+        let Some(signature) = signature(four.get(), &block, signer) else {
+            drop(block);
+            return Ok(false);
+        };
+        fail_allocations(alloc);
+        let found = check_block::<DemoScheme>(alloc, four, block, signature).err();
+        allow_allocations(alloc);
+        if found != Some(fault) {
             return Ok(false);
         }
     }
@@ -202,35 +210,26 @@ const CERTIFICATES: [(u16, &[u16], CertFault); 4] = [
     (0, &[0, 1, 2], CertFault::Signature { signer: 0 }),
 ];
 
-/// The fault of a certificate for the author, checked while all allocations fail. Its votes are for author 1, so they are forged.
-fn certificate_fault(
-    alloc: Global,
-    four: &Shared<Committee>,
-    author: u16,
-    signers: &[u16],
-) -> Result<Option<CertFault>, NoMemory> {
-    let slot = (Round::ZERO, 1);
-    let mut certificate = retry!(
-        NoMemory,
-        certificate(alloc, four.get(), VOTED, slot, signers)
-    )?;
-    certificate.author = author;
-    fail_allocations(alloc);
-    let fits = certificate.fits();
-    let is_valid = valid::<DemoScheme>(four.get(), VOTED, &certificate);
-    let fault = if fits {
-        check_cert::<DemoScheme>(alloc, four, certificate).err()
-    } else {
-        None
-    };
-    allow_allocations(alloc);
-    Ok(if is_valid { None } else { fault })
-}
-
-/// Whether each of [`CERTIFICATES`] has its fault.
+/// Whether each of [`CERTIFICATES`] has its fault. They are checked while all allocations fail. Their votes are for author 1, so they are
+/// forged.
 fn certificates_have_faults(alloc: Global, four: &Shared<Committee>) -> Result<bool, NoMemory> {
+    let slot = (Round::ZERO, 1);
     for (author, signers, fault) in CERTIFICATES {
-        if certificate_fault(alloc, four, author, signers)? != Some(fault) {
+        let mut certificate = retry!(
+            NoMemory,
+            certificate(alloc, four.get(), VOTED, slot, signers)
+        )?;
+        certificate.author = author;
+        fail_allocations(alloc);
+        let fits = certificate.fits();
+        let is_valid = valid::<DemoScheme>(four.get(), VOTED, &certificate);
+        let found = if fits {
+            check_cert::<DemoScheme>(alloc, four, certificate).err()
+        } else {
+            None
+        };
+        allow_allocations(alloc);
+        if is_valid || found != Some(fault) {
             return Ok(false);
         }
     }
@@ -262,11 +261,12 @@ fn checked_values_answer(alloc: Global, four: &Shared<Committee>) -> Result<bool
 }
 
 /// The results of all calls, each of which must be true.
-fn all_results(alloc: Global, four: &Shared<Committee>) -> Result<[bool; 8], Fail> {
+fn all_results(alloc: Global, four: &Shared<Committee>) -> Result<[bool; 9], Fail> {
     Ok([
         have_faults(alloc, four)?,
         finds_a_vote(alloc, four)?,
         are_over_limit(alloc, four.get())?,
+        are_written(alloc, four.get())?,
         is_signed(alloc, four.get())?,
         committees_answer(alloc, four.get())?,
         blocks_have_faults(alloc, four)?,
@@ -281,7 +281,7 @@ fn calls_without_allocation(rt: HostRuntime) -> Result<(), Fail> {
     let right = all_results(rt.alloc(), &four);
     let no_workers_refused = workers::refuses_no_workers(&rt, rt.alloc(), &four);
     drop(four);
-    assert_eq!(rt; right?, [true; 8]);
+    assert_eq!(rt; right?, [true; 9]);
     assert!(rt; no_workers_refused);
     Ok(())
 }

@@ -9,41 +9,64 @@ use std::alloc::AllocError;
 use std::sync::Wait;
 use std::thread::Threads;
 
-/// The messages of a good block and of a vote.
-fn two_texts(alloc: Global, four: &Committee) -> Result<Vec<Vec<u8>>, Fail> {
-    let mut texts = retry!(AllocError, Vec::with_capacity(alloc, 2))?;
-    texts.push(text_of(alloc, &block_message(alloc, four, 0)?)?)?;
-    texts.push(text_of(alloc, &Message::Vote(vote(four, VOTED, SLOT, 1)))?)?;
+/// This many messages: blocks, and a vote after each block.
+fn some_texts(alloc: Global, four: &Committee, count: usize) -> Result<Vec<Vec<u8>>, Fail> {
+    let mut texts = retry!(AllocError, Vec::with_capacity(alloc, count))?;
+    for place in 0..count {
+        let message = match place % 2 {
+            0 => block_message(alloc, four, 0)?,
+            _ => Message::Vote(vote(four, VOTED, SLOT, 1)),
+        };
+        texts.push(text_of(alloc, &message)?)?;
+    }
     Ok(texts)
 }
 
-/// The result of `check_all` with two workers and new texts.
-fn checked_by_two<R: Threads + Wait + Sync>(
+/// The result of `check_all` with this gate and this many new texts.
+fn checked<R: Threads + Wait + Sync, G: Gate + Sync>(
     rt: &R,
     alloc: Global,
     four: &Shared<Committee>,
+    gate: &G,
+    count: usize,
+    workers: usize,
 ) -> Result<Result<Vec<Checked<DemoScheme>>, IntakeFault>, Fail> {
-    let texts = two_texts(alloc, four.get())?;
-    if texts.len() > 2 {
-        return Err(Fail::from("there are two texts"));
+    let texts = some_texts(alloc, four.get(), count)?;
+    if texts.len() > 3 {
+        return Err(Fail::from("there are at most three texts"));
     }
-    Ok(check_all(rt, alloc, four, texts, 2, &FreeGate))
+    let checked = check_all(rt, alloc, four, texts, workers, gate);
+    allow_allocations(alloc);
+    Ok(checked)
 }
 
-/// Whether two workers find a block and a vote. A call that could not start a thread is repeated too.
-fn find_both<R: Threads + Wait + Sync>(
+/// Whether the results have these words, in order.
+fn have_words(answers: &[Checked<DemoScheme>], words: &[&str]) -> bool {
+    for (answer, expected) in answers.iter().zip(words) {
+        if word(answer) != *expected {
+            return false;
+        }
+    }
+    answers.len() == words.len()
+}
+
+/// Whether the workers find what these words say. A call that could not start a thread is repeated too.
+fn are_found<R: Threads + Wait + Sync, G: Gate + Sync>(
     rt: &R,
     alloc: Global,
     four: &Shared<Committee>,
+    gate: &G,
+    words: &[&str],
+    workers: usize,
 ) -> Result<bool, Fail> {
-    let answers = match checked_by_two(rt, alloc, four)? {
-        Err(IntakeFault::NoMemory | IntakeFault::Spawn) => checked_by_two(rt, alloc, four)??,
+    let count = words.len();
+    let answers = match checked(rt, alloc, four, gate, count, workers)? {
+        Err(IntakeFault::NoMemory | IntakeFault::Spawn) => {
+            checked(rt, alloc, four, gate, count, workers)??
+        }
         answers => answers?,
     };
-    let are_found = match answers.as_slice() {
-        [one, other] => word(one) == "block" && word(other) == "vote",
-        _ => false,
-    };
+    let are_found = have_words(&answers, words);
     drop(answers);
     Ok(are_found)
 }
@@ -71,49 +94,12 @@ impl Gate for Starving {
     }
 }
 
-/// The result of `check_all` with one worker, for a block, a vote and a block, under that gate.
-fn checked_by_one<R: Threads + Wait + Sync>(
-    rt: &R,
-    alloc: Global,
-    four: &Shared<Committee>,
-) -> Result<Result<Vec<Checked<DemoScheme>>, IntakeFault>, Fail> {
-    let mut texts = two_texts(alloc, four.get())?;
-    let last = text_of(alloc, &block_message(alloc, four.get(), 0)?)?;
-    retry!(AllocError, texts.reserve(1))?;
-    texts.push(last)?;
-    if texts.len() > 3 {
-        return Err(Fail::from("there are three texts"));
-    }
-    let gate = Starving { alloc };
-    let checked = check_all(rt, alloc, four, texts, 1, &gate);
-    allow_allocations(alloc);
-    Ok(checked)
-}
-
-/// Whether one worker finds both blocks and the vote. A call that could not start a thread is repeated too.
-fn find_three<R: Threads + Wait + Sync>(
-    rt: &R,
-    alloc: Global,
-    four: &Shared<Committee>,
-) -> Result<bool, Fail> {
-    let answers = match checked_by_one(rt, alloc, four)? {
-        Err(IntakeFault::NoMemory | IntakeFault::Spawn) => checked_by_one(rt, alloc, four)??,
-        answers => answers?,
-    };
-    let are_found = match answers.as_slice() {
-        [one, other, last] => {
-            word(one) == "block" && word(other) == "vote" && word(last) == "block"
-        }
-        _ => false,
-    };
-    drop(answers);
-    Ok(are_found)
-}
-
 #[test]
 fn a_check_starts_after_its_gate_lets_it(rt: HostRuntime) -> Result<(), Fail> {
     let four = four(rt.alloc())?;
-    let are_found = find_three(&rt, rt.alloc(), &four);
+    let gate = Starving { alloc: rt.alloc() };
+    let words = ["block", "vote", "block"];
+    let are_found = are_found(&rt, rt.alloc(), &four, &gate, &words, 1);
     drop(four);
     assert!(rt; are_found?);
     Ok(())
@@ -137,7 +123,7 @@ pub(super) fn refuses_no_workers<R: Threads + Wait + Sync>(
 #[test]
 fn two_workers_check_two_messages(rt: HostRuntime) -> Result<(), Fail> {
     let four = four(rt.alloc())?;
-    let are_found = find_both(&rt, rt.alloc(), &four);
+    let are_found = are_found(&rt, rt.alloc(), &four, &FreeGate, &["block", "vote"], 2);
     drop(four);
     assert!(rt; are_found?);
     Ok(())

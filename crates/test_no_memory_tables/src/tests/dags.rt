@@ -1,23 +1,38 @@
 //! Examples of calls on a `Dag`.
-use super::owns::{Own, block_over, own_block};
+use super::tables::wanted;
 use super::views::walks;
 use super::*;
-use nw_codec::{Certificate, Ref};
+use nw_codec::{Certificate, Ref, block_digest};
 use nw_dag::{Dag, DagLimits};
 use nw_digest::Sequence;
 use nw_model::{CausalReply, CertifyReply, CollectReply, Counts, Look, Wanted, WriteReply};
-use samples::shared_block;
+use samples::fallible::unsigned;
 use std::alloc::AllocError;
 
 /// Bounds for 64 blocks and 64 rounds.
-const ROOM: DagLimits = DagLimits {
+pub(super) const ROOM: DagLimits = DagLimits {
     blocks: 64,
     window: 64,
 };
 
-/// A block of author 0 in the round, with these parents.
-fn block_of(alloc: Global, round: Round, parents: &[Ref]) -> Result<Shared<Block>, NoMemory> {
-    shared_block(alloc, (round, 0), parents.to_vec(alloc)?, b"x")
+/// A block, and the digest under which it is written.
+#[derive(Drop)]
+struct Own {
+    digest: Digest,
+    block: Shared<Block>,
+}
+
+/// The block of the slot with these parents and without transactions, and the digest of its body. `NoMemory` also if it does not fit.
+fn own_block(alloc: Global, slot: (Round, u16), parents: &[Ref]) -> Result<Own, NoMemory> {
+    let block = unsigned(alloc, slot, parents, b"")?;
+    if !block.fits() {
+        return Err(NoMemory);
+    }
+    let digest = block_digest(&block);
+    Ok(Own {
+        digest,
+        block: Shared::new(alloc, block)?,
+    })
 }
 
 /// A certificate for the digest and the slot, without votes.
@@ -43,20 +58,16 @@ fn extend(
     round: Round,
     parents: &[Ref],
 ) -> Result<bool, NoMemory> {
-    let block = retry!(NoMemory, block_of(alloc, round, parents))?;
-    is_stored(dag, alloc, digest, &block)
+    let mut own = retry!(NoMemory, own_block(alloc, (round, 0), parents))?;
+    own.digest = digest;
+    is_stored(dag, alloc, &own)
 }
 
-/// Writes and certifies the block under the digest. Returns whether both were stored.
-fn is_stored(
-    dag: &mut Dag,
-    alloc: Global,
-    digest: Digest,
-    block: &Shared<Block>,
-) -> Result<bool, NoMemory> {
-    let slot = (block.get().round, block.get().author);
-    let certificate = retry!(NoMemory, certificate_of(alloc, digest, slot))?;
-    let written = retry!(NoMemory, dag.write(digest, block))?;
+/// Writes and certifies the block. Returns whether both were stored.
+fn is_stored(dag: &mut Dag, alloc: Global, own: &Own) -> Result<bool, NoMemory> {
+    let slot = (own.block.get().round, own.block.get().author);
+    let certificate = retry!(NoMemory, certificate_of(alloc, own.digest, slot))?;
+    let written = retry!(NoMemory, dag.write(own.digest, &own.block))?;
     let certified = retry!(NoMemory, dag.certify(&certificate))?;
     Ok(written == WriteReply::Stored { vote: true } && certified == CertifyReply::Certified)
 }
@@ -67,10 +78,7 @@ fn parts_of(
     alloc: Global,
     digest: Digest,
 ) -> Result<Result<usize, CausalReply>, NoMemory> {
-    match retry!(NoMemory, dag.freeze_for(alloc, digest))? {
-        Ok(view) => Ok(Ok(view.parts())),
-        Err(refusal) => Ok(Err(refusal)),
-    }
+    Ok(retry!(NoMemory, dag.freeze_for(alloc, digest))?.map(|view| view.parts()))
 }
 
 /// Whether `wanted` is the only missing parent of the block, and the block is seen in round 1 as it is.
@@ -89,10 +97,7 @@ fn is_missing(
         stands: true,
         complete: false,
     };
-    let is_only = match &missing {
-        None => false,
-        Some(missing) => missing.as_slice() == [wanted].as_slice(),
-    };
+    let is_only = missing.is_some_and(|missing| missing.as_slice() == [wanted].as_slice());
     Ok(is_only && looks.as_slice() == [(0, look)].as_slice())
 }
 
@@ -113,11 +118,7 @@ fn needs_no_parents(dag: &mut Dag, alloc: Global) -> Result<bool, NoMemory> {
         author: 1,
         digest: p,
     };
-    let wanted = Wanted {
-        round: Round::ZERO,
-        author: 1,
-        digest: p,
-    };
+    let wanted = wanted(1, 1);
     Ok(
         extend(dag, alloc, p, Round::ZERO, &[])?
             && extend(dag, alloc, q, round(1), &[parent])?
@@ -153,17 +154,6 @@ fn next_link(alloc: Global, number: u8, last: Option<Digest>) -> Result<Own, NoM
     }
 }
 
-/// The number of these digests under which the view has a block.
-fn count_in(view: &View, digests: &[Digest]) -> usize {
-    let mut count = 0_usize;
-    for digest in digests {
-        if view.get(digest).is_some() {
-            count = count.saturating_add(1);
-        }
-    }
-    count
-}
-
 /// Adds the next block of the chain, and its digest to `chain`. Returns the number of parts of its view, and the number of the chain's
 /// blocks in the view.
 fn next_seen(
@@ -173,12 +163,15 @@ fn next_seen(
     chain: &mut Vec<Digest>,
 ) -> Result<(usize, usize), NoMemory> {
     let link = retry!(NoMemory, next_link(alloc, number, chain.last().copied()))?;
-    if !is_stored(dag, alloc, link.digest, &link.block)? {
+    if !is_stored(dag, alloc, &link)? {
         return Ok((0, 0));
     }
     chain.push(link.digest)?;
     match retry!(NoMemory, dag.freeze_for(alloc, link.digest))? {
-        Ok(view) => Ok((view.parts(), count_in(&view, chain.as_slice()))),
+        Ok(view) => {
+            let seen = chain.iter().filter(|digest| view.get(digest).is_some());
+            Ok((view.parts(), seen.count()))
+        }
         Err(_refusal) => Ok((0, 0)),
     }
 }
@@ -234,11 +227,14 @@ fn full_generations_are_joined_without_collected_blocks(rt: HostRuntime) {
 /// The blocks of a committee of four: three of round 0, and one over them.
 fn four_owns(alloc: Global) -> Result<Vec<Own>, NoMemory> {
     let mut owns = Vec::with_capacity(alloc, 4)?;
+    let mut parents = Vec::with_capacity(alloc, 3)?;
     for author in 0..3u16 {
-        owns.push(own_block(alloc, (Round::ZERO, author), &[])?)?;
+        let own = own_block(alloc, (Round::ZERO, author), &[])?;
+        let digest = own.digest;
+        parents.push(Ref { author, digest })?;
+        owns.push(own)?;
     }
-    let over = block_over(alloc, (round(1), 0), &owns)?;
-    owns.push(over)?;
+    owns.push(own_block(alloc, (round(1), 0), &parents)?)?;
     Ok(owns)
 }
 
@@ -265,13 +261,13 @@ fn walks_over_both(dag: &mut Dag, alloc: Global) -> Result<bool, NoMemory> {
         return Ok(false);
     };
     for it in [a0, a1, a2] {
-        if !is_stored(dag, alloc, it.digest, &it.block)? {
+        if !is_stored(dag, alloc, it)? {
             return Ok(false);
         }
     }
     let digests = [a0.digest, a1.digest, a2.digest, b.digest];
     let all = parts_of(dag, alloc, a2.digest)? == Ok(1)
-        && is_stored(dag, alloc, b.digest, &b.block)?
+        && is_stored(dag, alloc, b)?
         && walks_over_two(dag, alloc, 0, b.digest, &digests)?;
     let collected = retry!(NoMemory, dag.collect(round(1)))?;
     let only = collected == CollectReply::Raised { dropped: 3 }

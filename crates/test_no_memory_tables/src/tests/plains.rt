@@ -14,25 +14,26 @@ enum ExampleCall {
     Read,
 }
 
+/// The digest and the slot of the block of this round and author.
+fn named(number: u8, author: u8) -> (Digest, (Round, u16)) {
+    let slot = (round(number), u16::from(author));
+    (name(number % 2, author % 3), slot)
+}
+
 /// The call that an entry of the example describes.
 fn call_of(alloc: Global, call: &ExampleCall) -> Result<Call, NoMemory> {
     Ok(match call {
-        ExampleCall::Write(0, author) => {
-            let slot = (Round::ZERO, u16::from(*author));
-            Call::Write(
-                name(0, *author % 3),
-                shared_block(alloc, slot, Vec::new(alloc), b"x")?,
-            )
-        }
-        ExampleCall::Write(_, _) => {
-            Call::Write(
-                name(1, 0),
-                shared_block(alloc, (round(1), 0), references(alloc)?, b"x")?,
-            )
+        ExampleCall::Write(number, author) => {
+            let (digest, slot) = named(*number, *author);
+            let parents = match number {
+                0 => Vec::new(alloc),
+                _ => references(alloc)?,
+            };
+            Call::Write(digest, shared_block(alloc, slot, parents, b"x")?)
         }
         ExampleCall::Certify(number, author) => {
-            let slot = (round(*number), u16::from(*author));
-            Call::Certify(certificate_of(alloc, name(*number % 2, *author % 3), slot)?)
+            let (digest, slot) = named(*number, *author);
+            Call::Certify(certificate_of(alloc, digest, slot)?)
         }
         ExampleCall::Causal => Call::Causal(name(1, 0)),
         ExampleCall::Collect => Call::Collect(round(2)),
@@ -112,18 +113,12 @@ pub(super) fn first_eight(alloc: Global) -> Result<Plain, NoMemory> {
 
 /// Whether the base has the block, the certificate and the first digest of the slot whose number and author these are.
 fn has_entries(base: &Base, number: u8, author: u8) -> bool {
-    let (digest, slot) = (
-        name(number % 2, author % 3),
-        (round(number), u16::from(author)),
-    );
-    let is_block = match base.block(&digest) {
-        Some(block) => (block.round, block.author) == slot,
-        None => false,
-    };
-    let is_certified = match base.certificate(&digest) {
-        Some(kept) => kept.digest == digest && (kept.round, kept.author) == slot,
-        None => false,
-    };
+    let (digest, slot) = named(number, author);
+    let is_block = base
+        .block(&digest)
+        .is_some_and(|block| (block.round, block.author) == slot);
+    let is_certified = base.certificate(&digest).is_some_and(|kept| kept.digest == digest
+        && (kept.round, kept.author) == slot);
     is_block && is_certified && base.first(slot.0, slot.1) == Some(digest)
 }
 

@@ -7,13 +7,7 @@ use nw_waiting::Waiting;
 
 /// Inserts the value. If memory runs out, inserts the value that the first attempt returned.
 fn insert(trie: &mut Trie<u64, Global>, key: Digest, value: u64) -> Result<Option<u64>, NoMemory> {
-    match trie.insert(key, value) {
-        Ok(old) => Ok(old),
-        Err((NoMemory, value)) => match trie.insert(key, value) {
-            Ok(old) => Ok(old),
-            Err((refused, _value)) => Err(refused),
-        },
-    }
+    retry!((NoMemory, value), trie.insert(key, value)).map_err(|_refused| NoMemory)
 }
 
 /// Whether the trie has exactly these entries, in order.

@@ -1,18 +1,14 @@
 //! Generations, views of them, walks, and the agreement of two walks.
-use super::owns::are_under;
 use super::*;
 use nw_causal::{Agreement, agree, walk};
 use nw_generation::{Generation, freeze};
 use samples::{Blocks, older, view_of_both, view_of_one};
 
 /// Freezes the blocks, and returns one more owner of their generation. If the freeze runs out of memory, it returns the blocks.
-fn frozen(alloc: Global, trie: Blocks) -> Result<Generation, NoMemory> {
-    let generation = match freeze(alloc, trie) {
+pub(super) fn frozen(alloc: Global, trie: Blocks) -> Result<Generation, NoMemory> {
+    let generation = match retry!((NoMemory, trie), freeze(alloc, trie)) {
         Ok(generation) => generation,
-        Err((NoMemory, trie)) => match freeze(alloc, trie) {
-            Ok(generation) => generation,
-            Err((refused, _trie)) => return Err(refused),
-        },
+        Err((refused, _trie)) => return Err(refused),
     };
     retry!(NoMemory, generation.try_clone())
 }
@@ -25,6 +21,17 @@ fn a_refused_freeze_hands_its_blocks_back(rt: HostRuntime) {
         .get(None, &digest)
         .is_some());
     assert_eq!(rt; found, [true, false]);
+}
+
+/// Whether these are the view's blocks under the digests, in order.
+fn are_under(view: &View, blocks: &[Shared<Block>], digests: &[Digest]) -> bool {
+    for (block, digest) in blocks.iter().zip(digests) {
+        match view.get(digest) {
+            Some(found) if found.get() == block.get() => {}
+            _ => return false,
+        }
+    }
+    blocks.len() == digests.len()
 }
 
 /// Whether the walk from the digest lists the view's blocks under these digests. Fails if the view lacks the block or has it below its floor.
@@ -56,28 +63,13 @@ fn a_walk_over_two_generations(rt: HostRuntime) {
     assert_eq!(rt; lists(rt.alloc(), 1, &four[3..]), Ok(true));
 }
 
-/// Compares the walks from the digest in both views. Fails if the floors differ, or if a view lacks the block or has it below its floor.
-fn compared(
-    alloc: Global,
-    one: &View,
-    other: &View,
-    digest: Digest,
-) -> Result<Agreement, NoMemory> {
-    let first = one.get(&digest).ok_or(NoMemory)?.get();
-    let second = other.get(&digest).ok_or(NoMemory)?.get();
-    let floor = one.floor().get();
-    if other.floor().get() != floor || first.round.get() < floor || second.round.get() < floor {
-        return Err(NoMemory);
-    }
-    retry!(NoMemory, agree(alloc, one, other, digest))
-}
-
 /// The block's first transaction, or an empty text if it has none.
 fn text_of(block: &Block) -> &[u8] {
     block.transactions.iter().next().unwrap_or(&[])
 }
 
-/// Whether the walks from the digest agree. If not, the colliding blocks must have the transactions "x" and `text`.
+/// Whether the walks from the digest agree. If not, the colliding blocks must have the transactions "x" and `text`. Fails if the floors
+/// differ, or if a view lacks the block or has it below its floor.
 fn is_same(
     alloc: Global,
     one: &View,
@@ -85,7 +77,13 @@ fn is_same(
     digest: Digest,
     text: &[u8],
 ) -> Result<bool, NoMemory> {
-    match compared(alloc, one, other, digest)? {
+    let first = one.get(&digest).ok_or(NoMemory)?.get();
+    let second = other.get(&digest).ok_or(NoMemory)?.get();
+    let floor = one.floor().get();
+    if other.floor().get() != floor || first.round.get() < floor || second.round.get() < floor {
+        return Err(NoMemory);
+    }
+    match retry!(NoMemory, agree(alloc, one, other, digest))? {
         Agreement::Same => Ok(true),
         Agreement::Collision { one, other }
             if text_of(one.get()) == b"x".as_slice() && text_of(other.get()) == text => {

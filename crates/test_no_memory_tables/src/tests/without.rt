@@ -1,20 +1,15 @@
 //! Calls that allocate nothing. They are made while all allocations fail.
-use super::dags::certificate_of;
+use super::dags::{ROOM, certificate_of};
 use super::plains::{first_eight, has_four};
 use super::tables::{missing_counts, put_certified, put_first, want_thrice, wanted};
+use super::views::frozen;
 use super::*;
-use nw_dag::{Dag, DagLimits};
-use nw_generation::{Generation, freeze};
+use nw_dag::Dag;
 use nw_plain::{Base, Plain};
 use nw_rounds::Rounds;
 use nw_trie::{DigestMap, Trie};
 use nw_waiting::Waiting;
 use samples::{Blocks, older, shared_block, view_of_both};
-
-/// A block of round 1 and author 0, without parents.
-fn of_round_one(alloc: Global) -> Result<Shared<Block>, NoMemory> {
-    shared_block(alloc, (round(1), 0), Vec::new(alloc), b"y")
-}
 
 /// Whether an insertion of `newer` replaces the trie's block of round 0 and author 0.
 fn is_replaced(trie: &mut Blocks, newer: Shared<Block>) -> bool {
@@ -35,10 +30,8 @@ fn listed_in(trie: &Blocks) -> usize {
 
 /// Whether the calls that read a trie of three blocks are right. Its first block must be of round 1.
 fn is_read(trie: &Blocks) -> bool {
-    let is_newer = match trie.get(&name(0, 0)) {
-        Some(first) => first.get().round == round(1),
-        None => false,
-    };
+    let first = trie.get(&name(0, 0));
+    let is_newer = first.is_some_and(|first| first.get().round == round(1));
     let listed = listed_in(trie) == 3 && trie.len() == 3 && !trie.is_empty();
     is_newer && listed && trie.get(&name(1, 0)).is_none()
 }
@@ -55,7 +48,10 @@ fn is_thinned(trie: &mut Blocks) -> bool {
 /// Whether a trie's calls allocate nothing, except the insertion of a new key.
 fn tries_pass(alloc: Global) -> Result<bool, NoMemory> {
     let mut trie = retry!(NoMemory, older(alloc, 3, b"x"))?;
-    let newer = retry!(NoMemory, of_round_one(alloc))?;
+    let newer = retry!(
+        NoMemory,
+        shared_block(alloc, (round(1), 0), Vec::new(alloc), b"y")
+    )?;
     fail_allocations(alloc);
     let are_right = is_replaced(&mut trie, newer)
         && is_read(&trie)
@@ -112,16 +108,6 @@ fn holders_pass(alloc: Global) -> Result<bool, NoMemory> {
     Ok(before == [2, 2, 1] && satisfied == 2 && missing == 1 && left == (0, 0))
 }
 
-/// A list with one generation of three blocks of round 0.
-fn generations(alloc: Global) -> Result<Vec<Generation>, NoMemory> {
-    let mut generations = Vec::with_capacity(alloc, 1)?;
-    match freeze(alloc, older(alloc, 3, b"x")?) {
-        Ok(generation) => generations.push(generation)?,
-        Err((refused, _trie)) => return Err(refused),
-    }
-    Ok(generations)
-}
-
 /// A view without generations.
 fn view_of_none(alloc: Global, floor: Round) -> View {
     let generations = Vec::new(alloc);
@@ -131,27 +117,21 @@ fn view_of_none(alloc: Global, floor: Round) -> View {
 /// Whether views are made and read without an allocation.
 fn views_pass(alloc: Global) -> Result<bool, NoMemory> {
     let view = retry!(NoMemory, view_of_both(alloc, b"x", round(1)))?;
-    let generations = retry!(NoMemory, generations(alloc))?;
+    let generation = frozen(alloc, retry!(NoMemory, older(alloc, 3, b"x"))?)?;
     fail_allocations(alloc);
     let is_read = view.get(&name(1, 0)).is_some()
         && view.descent().get(None, &name(1, 0)).is_some()
         && (view.floor(), view.parts()) == (round(1), 2);
-    let are_found = generations
-        .iter()
-        .all(|it| it.get(None, &name(0, 2)).is_some());
+    let is_found = generation.get(None, &name(0, 2)).is_some();
     let none = view_of_none(alloc, Round::ZERO);
     let is_empty = none.get(&name(1, 0)).is_none() && none.parts() == 0;
     allow_allocations(alloc);
-    Ok(is_read && are_found && is_empty)
+    Ok(is_read && is_found && is_empty)
 }
 
 /// A `Dag` with one certified block.
 fn store_of_one(alloc: Global) -> Result<Dag, NoMemory> {
-    let limits = DagLimits {
-        blocks: 64,
-        window: 64,
-    };
-    let mut dag = Dag::new(alloc, limits);
+    let mut dag = Dag::new(alloc, ROOM);
     let only = shared_block(alloc, (Round::ZERO, 0), Vec::new(alloc), b"x")?;
     dag.write(digest(1, 0), &only)?;
     dag.certify(&certificate_of(alloc, digest(1, 0), (Round::ZERO, 0))?)?;
@@ -161,12 +141,8 @@ fn store_of_one(alloc: Global) -> Result<Dag, NoMemory> {
 /// Whether a `Dag` is made and gives its status without an allocation.
 fn dags_pass(alloc: Global) -> Result<bool, NoMemory> {
     let dag = retry!(NoMemory, store_of_one(alloc))?;
-    let limits = DagLimits {
-        blocks: 1,
-        window: 1,
-    };
     fail_allocations(alloc);
-    let (status, none) = (dag.status(), Dag::new(alloc, limits).status());
+    let (status, none) = (dag.status(), Dag::new(alloc, ROOM).status());
     let is_complete = dag.is_complete(&digest(1, 0)) && !dag.is_complete(&digest(2, 0));
     allow_allocations(alloc);
     Ok((status.blocks, status.complete, none.blocks) == (1, 1, 0) && is_complete)

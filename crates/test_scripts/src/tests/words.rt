@@ -2,20 +2,19 @@
 //! a stray id, which no program gets.
 use nw_check::CertFault;
 use nw_digest::Shared;
-use nw_interpreter::{Bindings, LineFault, committee, refused};
+use nw_interpreter::{Bindings, committee, refused};
 use nw_model::{CertifyReply, Reply, WriteReply};
 use nw_play::PlayFault;
 use nw_script::{CommitteeLine, Name};
 use std::alloc::Global;
 use std::test::Fail;
 
-/// Replies to a write and to a certificate of the block `a`, and the line that a script prints for each.
-const WRITTEN: [(WriteReply, &str); 2] = [
-    (WriteReply::Clash, "a clash"),
-    (WriteReply::Misfit, "a misfit"),
+/// Replies to calls about the block `a`, and the line that a script prints for each.
+const REPLIES: [(Reply, &str); 3] = [
+    (Reply::Write(WriteReply::Clash), "a clash"),
+    (Reply::Write(WriteReply::Misfit), "a misfit"),
+    (Reply::Certify(CertifyReply::Misfit), "a misfit"),
 ];
-
-const CERTIFIED: [(CertifyReply, &str); 1] = [(CertifyReply::Misfit, "a misfit")];
 
 /// Faults of the certificate of the block `a`, and the line that a script prints for each.
 const REFUSED: [(CertFault, &str); 2] = [
@@ -26,20 +25,10 @@ const REFUSED: [(CertFault, &str); 2] = [
     ),
 ];
 
-/// The line, which is there unless an allocation failed.
-fn printed(line: Result<String, LineFault>) -> Result<String, Fail> {
-    match line {
-        Ok(line) => Ok(line),
-        Err(_) => Err(Fail::from("a line is printed")),
-    }
-}
-
 /// Bindings with one member and no names.
 fn bindings_of_one_member(alloc: Global) -> Result<Bindings<'static>, Fail> {
-    match committee(alloc, &CommitteeLine::Equal { members: 1 }) {
-        Ok(one) => Ok(Bindings::new(alloc, Shared::new(alloc, one)?)),
-        Err(_) => Err(Fail::from("there is a committee of one")),
-    }
+    let one = committee(alloc, &CommitteeLine::Equal { members: 1 }).ok();
+    Ok(Bindings::new(alloc, Shared::new(alloc, one.ok_or("a committee of one")?)?))
 }
 
 #[test]
@@ -47,17 +36,13 @@ fn replies_that_no_script_gets_have_their_words(rt: HostRuntime) -> Result<(), F
     let alloc = rt.alloc();
     let name = Name::new("a").ok_or("a letter is a name")?;
     let bindings = bindings_of_one_member(alloc)?;
-    for (reply, prints) in WRITTEN {
-        let line = printed(bindings.line_of(alloc, Some(name), &Reply::Write(reply)))?;
-        assert_eq!(rt; line.as_str(), prints);
-    }
-    for (reply, prints) in CERTIFIED {
-        let line = printed(bindings.line_of(alloc, Some(name), &Reply::Certify(reply)))?;
-        assert_eq!(rt; line.as_str(), prints);
+    for (reply, prints) in REPLIES {
+        let line = bindings.line_of(alloc, Some(name), &reply).ok();
+        assert_eq!(rt; line.as_deref(), Some(prints));
     }
     for (fault, prints) in REFUSED {
-        let line = printed(refused(alloc, name, fault))?;
-        assert_eq!(rt; line.as_str(), prints);
+        let line = refused(alloc, name, fault).ok();
+        assert_eq!(rt; line.as_deref(), Some(prints));
     }
     Ok(())
 }
@@ -67,14 +52,8 @@ const KEYS: [(u16, [u8; 2]); 4] = [(0, [0, 0]), (1, [0, 1]), (2, [0, 2]), (99, [
 
 /// The bytes of the member's key in the committee of this line, if there is such a member.
 fn key_of(alloc: Global, line: &CommitteeLine, member: u16) -> Result<Option<[u8; 32]>, Fail> {
-    match committee(alloc, line) {
-        Ok(members) => {
-            let key = members.key(member).map(|key| key.0);
-            drop(members);
-            Ok(key)
-        }
-        Err(_) => Err(Fail::from("there is a committee")),
-    }
+    let members = committee(alloc, line).ok().ok_or("there is a committee")?;
+    Ok(members.key(member).map(|key| key.0))
 }
 
 #[test]

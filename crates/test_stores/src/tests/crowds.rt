@@ -73,28 +73,15 @@ fn sixteen_threads_follow_a_chain_and_settle(rt: HostRuntime) -> Result<(), Fail
     Ok(())
 }
 
-/// Limits of many events and two sessions.
-const LATE: Limits = Limits {
-    events: 4096,
-    sessions: 2,
-    ..LIMITS
-};
-
 #[test]
 fn a_walk_starts_after_a_collection_in_another_thread(rt: HostRuntime) -> Result<(), Fail> {
     let tasks = [Task::Beside; 2];
     assert_eq!(rt;
-        worked(&rt, rt.alloc(), LATE, 5, &BEFORE, &tasks)?,
+        worked(&rt, rt.alloc(), limits(4096, 2), 5, &BEFORE, &tasks)?,
         (14, 11 + 3, 2)
     );
     Ok(())
 }
-
-/// Limits of many events and sixteen sessions.
-const CROWDED: Limits = Limits {
-    events: 2048,
-    ..LIMITS
-};
 
 #[test]
 fn fourteen_readers_beside_a_writer_and_a_collector(rt: HostRuntime) -> Result<(), Fail> {
@@ -102,7 +89,7 @@ fn fourteen_readers_beside_a_writer_and_a_collector(rt: HostRuntime) -> Result<(
     tasks[0] = Task::Write;
     tasks[1] = Task::Collect;
     assert_eq!(rt;
-        worked(&rt, rt.alloc(), CROWDED, 64, &[], &tasks)?,
+        worked(&rt, rt.alloc(), limits(2048, 16), 64, &[], &tasks)?,
         (1560, 128 + 32 + 14 * 100, 16)
     );
     Ok(())

@@ -27,11 +27,6 @@ fn asked<R: Threads + Wait + Sync>(
     seen
 }
 
-/// The limits of a script with this many sessions.
-const fn limits_of(sessions: u32) -> Limits {
-    Limits { sessions, ..LIMITS }
-}
-
 const COUNTS: &str =
     "Status(Counts { floor: Round { number: 0 }, blocks: 2, certificates: 1, complete: 1, wanted: 1 })";
 
@@ -56,7 +51,7 @@ fn a_journal_has_each_call_and_its_reply(rt: HostRuntime) -> Result<(), Fail> {
     let alloc = rt.alloc();
     let mut links = chain(alloc, 1)?;
     links.push(link_over(alloc, &committee(alloc, 1)?, 0, 1, &[PARENT])?)?;
-    let seen = asked(&rt, alloc, (1, limits_of(1)), links, &DIALOGUE)?;
+    let seen = asked(&rt, alloc, (1, limits(1024, 1)), links, &DIALOGUE)?;
     assert_eq!(rt; (seen.events, seen.recorded), (12, 12));
     Ok(())
 }
@@ -75,7 +70,7 @@ fn a_second_session_reads_what_the_first_wrote(rt: HostRuntime) -> Result<(), Fa
     let digest = block.digest();
     let certificate = certificate(alloc, &one, 0, 0, digest)?;
     let links = vec![in alloc; Link { block, certificate }]?;
-    let seen = asked(&rt, alloc, (1, limits_of(2)), links, &WRITTEN)?;
+    let seen = asked(&rt, alloc, (1, limits(1024, 2)), links, &WRITTEN)?;
     assert_eq!(rt; (seen.withheld, seen.events, seen.recorded), ((2, 1), 2, 2));
     Ok(())
 }
@@ -89,7 +84,7 @@ const SILENT: [Row; 2] = [
 #[test]
 fn sessions_settle_once_all_of_them_are_given(rt: HostRuntime) -> Result<(), Fail> {
     let alloc = rt.alloc();
-    let seen = asked(&rt, alloc, (1, limits_of(3)), chain(alloc, 1)?, &SILENT)?;
+    let seen = asked(&rt, alloc, (1, limits(1024, 3)), chain(alloc, 1)?, &SILENT)?;
     assert_eq!(rt; (seen.withheld, seen.events, seen.recorded), ((3, 2), 2, 2));
     Ok(())
 }
@@ -105,19 +100,12 @@ const REFUSED: [Row; 4] = [
 /// A write of the same block in a store of its own committee.
 const TAKEN: [Row; 1] = [Row(0, 0, Ask::Write, STORED)];
 
-/// Limits of one event and one session.
-const SHORT: Limits = Limits {
-    events: 1,
-    sessions: 1,
-    ..LIMITS
-};
-
 #[test]
 fn a_refused_call_can_be_followed_by_others(rt: HostRuntime) -> Result<(), Fail> {
     let alloc = rt.alloc();
     for (members, rows) in [(1, REFUSED.as_slice()), (4, TAKEN.as_slice())] {
         let links = vec![in alloc; link_over(alloc, &committee(alloc, 4)?, 0, 0, &[])?]?;
-        let seen = asked(&rt, alloc, (members, SHORT), links, rows)?;
+        let seen = asked(&rt, alloc, (members, limits(1, 1)), links, rows)?;
         assert_eq!(rt; (seen.events, seen.recorded), (1, 1), "{members}");
     }
     Ok(())
@@ -173,7 +161,7 @@ fn views_of_a_store_share_what_was_frozen(rt: HostRuntime) -> Result<(), Fail> {
     let alloc = rt.alloc();
     let mut rows = openings(alloc)?;
     rows.extend_from_slice(&COMPACTED)?;
-    let seen = asked(&rt, alloc, (1, limits_of(1)), chain(alloc, 17)?, &rows)?;
+    let seen = asked(&rt, alloc, (1, limits(1024, 1)), chain(alloc, 17)?, &rows)?;
     assert_eq!(rt; (seen.events, seen.recorded), (17 * 3 + 1, 17 * 3 + 1));
     Ok(())
 }

@@ -151,19 +151,15 @@ pub(super) fn exchange_notes<L: Home, R: Threads + Wait + Sync>(
     }
 }
 
-/// Limits of 96 events and two sessions.
-const TWO: Limits = Limits {
-    events: 96,
-    sessions: 2,
-    ..LIMITS
-};
-
 // Without a note, no clause says which of two sessions' calls comes first. Here the write waits for the read, which finds no block. A
 // note of the write is taken after the write, so a session that hears it reads after the write.
 #[test]
 fn without_a_note_a_read_may_come_before_the_write(rt: HostRuntime) -> Result<(), Fail> {
     let tasks = [Task::Early, Task::Late];
-    assert_eq!(rt; worked(&rt, rt.alloc(), TWO, 1, &[], &tasks)?, (3, 3, 2));
+    assert_eq!(rt;
+        worked(&rt, rt.alloc(), limits(96, 2), 1, &[], &tasks)?,
+        (3, 3, 2)
+    );
     Ok(())
 }
 
@@ -172,7 +168,7 @@ fn a_thread_walks_the_blocks_of_another_after_notes_of_them(rt: HostRuntime) -> 
     let alloc = rt.alloc();
     let links = chain(alloc, 32)?;
     let scene = Scene::Notes(&links);
-    let seen = played(&rt, alloc, book(alloc, 1, TWO)?, &scene)?;
+    let seen = played(&rt, alloc, book(alloc, 1, limits(96, 2))?, &scene)?;
     assert_eq!(rt; (seen.events, seen.recorded), (3 * 32, 3 * 32));
     Ok(())
 }

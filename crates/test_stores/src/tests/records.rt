@@ -7,7 +7,7 @@ use super::scripts::{Row, text_of};
 use super::tasks::Crew;
 use super::*;
 use nw_model::{CertifyReply, WriteReply};
-use nw_store::{Call, Entry, History, NoMemory};
+use nw_store::{Call, Entry, Front, NoMemory};
 
 /// Numbers of calls at which the lengths and parts of fronts are measured.
 const MARKS: [usize; 4] = [255, 256, 257, 513];
@@ -165,7 +165,7 @@ const SHORT: usize = 256;
 
 /// Whether each front of the journal is a prefix of the history. A comparison visits each event of the front. So of the fronts of more than
 /// `SHORT` events only the last is compared with the history: `grows` compares each with the next one.
-pub(super) fn begin(journal: &[Entry<DemoScheme>], history: &History<DemoScheme>) -> bool {
+pub(super) fn begin(journal: &[Entry<DemoScheme>], history: &Front<DemoScheme>) -> bool {
     for answer in journal {
         if answer.front().len() <= SHORT && !answer.front().is_prefix_of(history) {
             return false;
@@ -179,7 +179,7 @@ pub(super) fn begin(journal: &[Entry<DemoScheme>], history: &History<DemoScheme>
 
 /// Whether the session's events in the history are the calls of its journal, in order.
 pub(super) fn matches_history(
-    history: &History<DemoScheme>,
+    history: &Front<DemoScheme>,
     journal: &[Entry<DemoScheme>],
     session: u16,
 ) -> bool {

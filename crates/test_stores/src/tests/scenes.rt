@@ -71,23 +71,18 @@ fn perform<L: Home, R: Threads + Wait + Sync>(
     sessions: &mut Vec<Session<DemoScheme, L>>,
     scene: &Scene<'_>,
 ) -> Result<(), Fail> {
+    make_sessions(rt, alloc, store, sessions, scene.sessions())?;
     match scene {
-        Scene::Crowd(count, before, crew) => {
-            make_sessions(rt, alloc, store, sessions, *count)?;
+        Scene::Script(_, rows, crew) => {
+            drop(play_script(rt, alloc, store, sessions.as_mut_slice(), crew, rows)?);
+        }
+        Scene::Crowd(_, before, crew) => {
             drop(play_script(rt, alloc, store, sessions.as_mut_slice(), crew, before)?);
             in_threads(rt, alloc, store, sessions.as_mut_slice(), crew);
-            Ok(())
         }
-        Scene::Script(count, rows, crew) => {
-            make_sessions(rt, alloc, store, sessions, *count)?;
-            drop(play_script(rt, alloc, store, sessions.as_mut_slice(), crew, rows)?);
-            Ok(())
-        }
-        Scene::Notes(links) => {
-            make_sessions(rt, alloc, store, sessions, 2)?;
-            exchange_notes(rt, alloc, store, sessions, links)
-        }
+        Scene::Notes(links) => exchange_notes(rt, alloc, store, sessions, links)?,
     }
+    Ok(())
 }
 
 /// Plays the scene on the store, and settles its sessions. Those of a crowd settle at once, all others after a try without the last one.

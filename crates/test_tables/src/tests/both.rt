@@ -29,7 +29,7 @@ impl Both {
         }
     }
 
-    /// Makes the call on the `Dag`. Returns whether its reply is the expected one.
+    /// Makes the call on the `Dag`. Returns whether its reply is the expected one. For `Ready`, it compares a walk with the expected list.
     fn dag_replies(
         &mut self,
         alloc: Global,
@@ -38,22 +38,11 @@ impl Both {
     ) -> Result<bool, NoMemory> {
         let answered = self.dag.reply(alloc, call)?;
         self.dag.take(call, &answered)?;
-        self.agrees(alloc, call, &answered, expected)
-    }
-
-    /// Whether the `Dag`'s reply is the expected one. For `Ready`, it compares a walk with the expected list.
-    fn agrees(
-        &mut self,
-        alloc: Global,
-        call: &Call,
-        answered: &Reply,
-        expected: &Reply,
-    ) -> Result<bool, NoMemory> {
-        match (call, answered, expected) {
+        match (call, &answered, expected) {
             (Call::Causal(digest), Reply::Ready, Reply::List(blocks)) => {
                 self.lists(alloc, *digest, blocks.as_slice())
             }
-            _ => Ok(is_same(answered, expected)),
+            _ => Ok(is_same(&answered, expected)),
         }
     }
 

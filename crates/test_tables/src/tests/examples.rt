@@ -193,7 +193,10 @@ fn is_played(alloc: Global, example: &Example) -> bool {
 
 #[test]
 fn the_tables_answer_as_the_plain_store(rt: HostRuntime) {
-    for example in &tables::EXAMPLES {
+    for example in &tables::replies::EXAMPLES {
+        assert!(rt; is_played(rt.alloc(), example), "{}", example.purpose);
+    }
+    for example in &tables::parents::EXAMPLES {
         assert!(rt; is_played(rt.alloc(), example), "{}", example.purpose);
     }
 }

@@ -2,7 +2,7 @@ use Rattle.std.proofs.Common.{subst}
 use Rattle.std.specs.Prelude.{IsTrue, List, All}
 use Rattle.nw_committee.specs.declared.member.Member.{Member}
 use Rattle.nw_model.specs.Checks.{IsSealOf}
-use Rattle.nw_check.specs.Fault.{IsFirstBadSeal}
+use Rattle.nw_check.specs.Seals.{IsFirstBad}
 use Rattle.nw_check.proofs.Broken.{good_votes-valid}
 use Rattle.nw_check.proofs.check.cert_fault.Goals as goal
 
@@ -12,10 +12,10 @@ returns-in-None g c =
     let certificate = c.args.certificate.now in
     let author : IsTrue c.is_member.result = cc in
     let named : IsTrue c.are_members.result = cc in
-    let reached : IsTrue c.reach_quorum.result = cc in
+    let reached : IsTrue c.reaches_quorum.result = cc in
     let sealed = subst (λ (members : List Member). All (IsSealOf accepts members certificate) certificate.votes) c.requires.members c.in-None.ensures in
     good_votes-valid accepts c.args.committee.now certificate c.requires.fits (c.is_member.ensures.member.0 author)
-    (rw c.as_slice-votes.ensures at (c.are_members.ensures.0 named)) (rw c.as_slice-votes.ensures at (c.reach_quorum.ensures.0 reached)) sealed
+    (rw c.as_slice-votes.ensures at (c.are_members.ensures.0 named)) (rw c.as_slice-votes.ensures at (c.reaches_quorum.ensures.reached.0 reached)) sealed
 
 pub returns-in-Some : goal.returns-in-Some
 returns-in-Some g c =
@@ -23,6 +23,6 @@ returns-in-Some g c =
     let certificate = c.args.certificate.now in
     let author : IsTrue c.is_member.result = cc in
     let named : IsTrue c.are_members.result = cc in
-    let reached : IsTrue c.reach_quorum.result = cc in
-    let bad = subst (λ (members : List Member). IsFirstBadSeal accepts members certificate c.in-Some.signer) c.requires.members c.in-Some.ensures in
-    ((c.is_member.ensures.member.0 author, rw c.as_slice-votes.ensures at (c.are_members.ensures.0 named)), rw c.as_slice-votes.ensures at (c.reach_quorum.ensures.0 reached), bad)
+    let reached : IsTrue c.reaches_quorum.result = cc in
+    let bad = subst (λ (members : List Member). IsFirstBad (IsSealOf accepts members certificate) certificate.votes c.in-Some.signer) c.requires.members c.in-Some.ensures in
+    ((c.is_member.ensures.member.0 author, rw c.as_slice-votes.ensures at (c.are_members.ensures.0 named)), rw c.as_slice-votes.ensures at (c.reaches_quorum.ensures.reached.0 reached), bad)

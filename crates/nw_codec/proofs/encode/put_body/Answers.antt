@@ -1,10 +1,21 @@
-use Rattle.std.proofs.Common.{ℕ, List, refl, subst, take, drop, rules}
+use Rattle.std.proofs.Common.{ℕ, List, length, refl, subst, ap, ◌∙◌, take, drop, rules}
 use Rattle.std.specs.Prelude.{All}
 use Rattle.std.proofs.lemmas.Result.{on_ok_weaker}
 use Rattle.nw_codec.specs.Typed.{AreBytes, IsRef}
 use Rattle.nw_codec.proofs.BodyPieces.{pieces_of_body}
 use Rattle.nw_codec.proofs.Packed.{bytes_of_each}
+use Rattle.nw_codec.proofs.Sizes.{length-transactions}
 use Rattle.nw_codec.proofs.encode.put_body.Goals as goal
+
+pub put-requires-6 : goal.put-requires-6
+put-requires-6 g c =
+    let size = ap length c.text.ensures ∙ length-transactions c.args.block.now.transactions in
+    search (rules, size)
+
+pub returns-clause-room : goal.returns-clause-room
+returns-clause-room g c =
+    let size = ap length c.text.ensures ∙ length-transactions c.args.block.now.transactions in
+    on_ok_weaker c.put-6.result (λ put. search (rules, size)) c.put-6.ensures.text
 
 pub returns-clause-text : goal.returns-clause-text
 returns-clause-text g c = on_ok_weaker c.put-6.result

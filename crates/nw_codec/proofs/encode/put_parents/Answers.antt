@@ -9,6 +9,8 @@ use Rattle.nw_codec.proofs.encode.put_parents.Goals as goal
 pub loop-parent-preserved : goal.loop-parent-preserved
 loop-parent-preserved g c = record {
   text = grind (arith, common_steps);
+  room = search rules;
+  place = search rules;
   typed = All-more IsRef c.args.parents.now c.loop-parent.parent-index _ c.loop-parent-test.true c.loop-parent.invariant.typed
       (record { author = search rules; digest = search rules; digest_bytes = c.put-in-loop-parent.ensures.bytes });
 }

@@ -9,7 +9,7 @@ use Rattle.nw_codec.specs.declared.block.Block.{Block}
 use Rattle.nw_digest.specs.declared.digest.Digest.{Digest}
 use Rattle.nw_digest.specs.Order.{digest_cmp}
 use Rattle.nw_model.specs.State.{State}
-use Rattle.nw_model.proofs.Maps.{digests_apart, digests_total, put_entries}
+use Rattle.nw_digest.proofs.Maps.{digests_apart, digests_total, put_entries}
 use Rattle.nw_state.proofs.Opening.{ordered_none}
 use Rattle.nw_dag.specs.Frozen.{AreHeldUnder}
 use Rattle.nw_dag.proofs.Ascending.{before_place, goes_last}

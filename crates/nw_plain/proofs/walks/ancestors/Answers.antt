@@ -1,12 +1,13 @@
 use Rattle.std.proofs.Common.{◌≡◌, Some, ap, sym, ◌∙◌, arith}
+use Rattle.std.proofs.lemmas.Option.{none-some}
 use Rattle.std.specs.Map.{lookup}
 use Rattle.std.specs.BTreeMap.{is_at}
 use Rattle.std.specs.FinMap.{get}
 use Rattle.nw_codec.specs.declared.block.Block.{Block}
 use Rattle.nw_digest.specs.Order.{slot_cmp}
 use Rattle.nw_model.specs.State.{block_slot}
-use Rattle.nw_model.proofs.Maps.{get_lookup, put_entries, slots_total, slots_apart}
-use Rattle.nw_model.proofs.Finding.{none_some, there_is}
+use Rattle.nw_digest.proofs.Maps.{get_lookup, put_entries, slots_total, slots_apart}
+use Rattle.nw_model.proofs.Finding.{there_is}
 use Rattle.nw_model.proofs.Ancestors.{explores_first, explores_above, explores_on, reaches_floor, reaches_early, none_left}
 use Rattle.nw_plain.proofs.walks.ancestors.Goals as goal
 use Rattle.nw_plain.proofs.walks.ancestors.Goals.{in-Some+in_ok-insert+in_ok-push+else-loop-test, in-Some+in_ok-insert+in_ok-push+then-loop-test+then-is_empty, in_default}
@@ -31,5 +32,5 @@ pub returns : goal.returns
 returns c = elim c.match-get.branch [
   | in-Some+in_ok-insert+in_ok-push+else-loop-test w ↦ rw (w.found-is) (reaches_floor _ _ _ _ _ _ w.loop.invariant w.loop-test.false)
   | in-Some+in_ok-insert+in_ok-push+then-loop-test+then-is_empty w ↦ rw (w.found-is) (reaches_early _ _ _ _ _ _ w.loop.invariant (let none = none_left w.loop.frontier.len w.if-is_empty.ensures in omega (arith, none, w.loop.frontier.ok.0)))
-  | in_default w ↦ absurd (none_some c.requires.0 (w.in_default.ensures.block ∙ c.requires.1.0))
+  | in_default w ↦ absurd (none-some c.requires.0 (w.in_default.ensures.block ∙ c.requires.1.0))
 ]

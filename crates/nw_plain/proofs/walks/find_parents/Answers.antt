@@ -3,14 +3,15 @@ use Rattle.std.specs.Option.{is_some}
 use Rattle.std.specs.FinMap.{FinMap, get, from_entries}
 use Rattle.std.proofs.lemmas.List.{take_all}
 use Rattle.std.proofs.lemmas.List.Elements.{All-get_or, All-same}
+use Rattle.std.proofs.lemmas.Option.{none-some}
 use Rattle.nw_digest.specs.declared.digest.Digest.{Digest}
 use Rattle.nw_codec.specs.declared.block.Ref.{Ref}
 use Rattle.nw_codec.specs.declared.block.Block.{Block}
 use Rattle.nw_digest.specs.Order.{slot_cmp}
 use Rattle.nw_model.specs.State.{block_slot}
 use Rattle.nw_model.specs.View.{HasBlock}
-use Rattle.nw_model.proofs.Maps.{get_lookup, slots_total, slots_apart, put_entries}
-use Rattle.nw_model.proofs.Finding.{finds_nothing, finds_again, finds_one, under_more, names_nothing, names_on, none_some, there_is}
+use Rattle.nw_digest.proofs.Maps.{get_lookup, slots_total, slots_apart, put_entries}
+use Rattle.nw_model.proofs.Finding.{finds_nothing, finds_again, finds_one, under_more, names_nothing, names_on, there_is}
 use Rattle.nw_plain.proofs.walks.find_parents.Goals as goal
 use Rattle.nw_plain.proofs.walks.find_parents.Goals.{in-Some+then-not-contains_key+in_ok-insert+in_ok-push, in-Some+else-not-contains_key, in_default}
 
@@ -42,7 +43,7 @@ loop-reference-preserved c =
           rw (w.found-is, w.parents-is)
           (names_on _ refs c.loop-reference.reference-index none _ _ _ _ _ _ c.loop-reference-test.true c.loop-reference.invariant
           (finds_again _ _ _ r.digest parent w.in-Some.ensures.closed under at taken))
-      | in_default w ↦ absurd (none_some there.0 (w.in_default.ensures.block ∙ there.1.0))
+      | in_default w ↦ absurd (none-some there.0 (w.in_default.ensures.block ∙ there.1.0))
     ]
 
 pub returns : goal.returns

@@ -1,10 +1,11 @@
 use Rattle.std.proofs.Common.{◌≡◌, Some, [], get_or, ap, sym, ◌∙◌}
 use Rattle.std.specs.FinMap.{get}
 use Rattle.std.proofs.lemmas.List.{take_all}
+use Rattle.std.proofs.lemmas.Option.{none-some}
 use Rattle.nw_digest.specs.declared.digest.Digest.{Digest}
 use Rattle.nw_codec.specs.declared.block.Block.{Block}
 use Rattle.nw_model.specs.View.{Frozen}
-use Rattle.nw_model.proofs.Finding.{finds_nothing, under_more, parents_nothing, parents_on, parents_there, above_is, none_some}
+use Rattle.nw_model.proofs.Finding.{finds_nothing, under_more, parents_nothing, parents_on, parents_there, above_is}
 use Rattle.nw_plain.proofs.walks.parents_of_all.Goals as goal
 use Rattle.nw_plain.proofs.walks.parents_of_all.Goals.{in-Some+in_ok-find_parents, in_default}
 
@@ -35,7 +36,7 @@ loop-digest-preserved c =
           let at : get v.blocks d ≡ Some block = sym w.in-Some.ensures.block ∙ ap Some (sym w.get-in-Some.ensures) in
           rw (w.found-is, w.parents-is)
           (parents_on v c.args.frontier.now c.loop-digest.digest-index none block _ _ _ _ _ _ c.loop-digest-test.true at (above_is v d block above at) c.loop-digest.invariant w.in_ok-find_parents.ensures)
-      | in_default w ↦ absurd (none_some above.0 (w.in_default.ensures.block ∙ above.1))
+      | in_default w ↦ absurd (none-some above.0 (w.in_default.ensures.block ∙ above.1))
     ]
 
 pub returns : goal.returns

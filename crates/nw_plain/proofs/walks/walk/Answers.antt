@@ -3,7 +3,7 @@ use Rattle.std.specs.Map.{values_of}
 use Rattle.std.specs.Map.Iter.{deref}
 use Rattle.std.proofs.lemmas.Map.Iter.{iter_turn, iter_end}
 use Rattle.nw_digest.specs.declared.digest.Digest.{Digest}
-use Rattle.nw_model.proofs.Finding.{none_some}
+use Rattle.std.proofs.lemmas.Option.{none-some}
 use Rattle.nw_model.proofs.Walked.{values_there, walk_on, turn_among, walked}
 use Rattle.nw_plain.proofs.walks.walk.Goals as goal
 
@@ -20,7 +20,7 @@ loop-digest-preserved c =
     let values : List Digest = values_of c.in_ok-found.found.entries in
     let turn = iter_turn deref values c.loop-digest.yielded _ _ _ _ (c.into_iter-digest-iterator.ensures.into_iter_gives ∙ c.values-digest-items.ensures.rest) c.loop-digest.yielded_by c.in-Some.digest c.in-Some.is c.next.ensures.steps in
     let there = values_there c.args.view.now c.args.digest c.in_ok-found.found.entries c.len.ensures.ordered c.in_ok-found.ensures c.in-Some.digest.now (turn_among values _ _ turn.0 turn.1) in
-    absurd (none_some there.0 (c.in_default.ensures.block ∙ there.1))
+    absurd (none-some there.0 (c.in_default.ensures.block ∙ there.1))
 
 pub returns : goal.returns
 returns c =

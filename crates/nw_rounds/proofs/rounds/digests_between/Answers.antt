@@ -6,7 +6,7 @@ use Rattle.std.specs.Ordering.{eq_by_cmp}
 use Rattle.std.proofs.lemmas.Map.Iter.{iter_end}
 use Rattle.nw_digest.specs.Order.{digest_cmp}
 use Rattle.nw_rounds.specs.Places.{tables_of}
-use Rattle.nw_rounds.proofs.SlotLemmas.{digests_total}
+use Rattle.nw_digest.proofs.Maps.{digests_total}
 use Rattle.nw_rounds.proofs.AtRound.{are_digests, one_more, values_read, values_more}
 use Rattle.nw_rounds.proofs.rounds.digests_between.Goals as goal
 

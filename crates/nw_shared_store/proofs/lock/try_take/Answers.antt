@@ -13,14 +13,14 @@ pub compare_exchange-requires : goal.compare_exchange-requires
 compare_exchange-requires g c =
     let lock = c.args.lock.now.shared in
     let slots = lock.table_id.slots in
-    let me = c.args.pass.now.me in (
+    let me = c.args.seat.now.me in (
       c.requires.lock.same,
       subst (λ n. 0 < n) (sym c.requires.lock.words) (omega arith),
-      subst (λ (l : List (ℕ × Current)). Allows (IsOneHistory lock.key) slots c.args.pass.now.id (me.0, l) 0 (λ n. either (n == 0) 1 n) (Acquires (step slots 0 0 1 none) (me.0, l))) (sym c.requires.out) (acquires lock.key slots c.args.pass.now.id me.0),
+      subst (λ (l : List (ℕ × Current)). Allows (IsOneHistory lock.key) slots c.args.seat.now.id (me.0, l) 0 (λ n. either (n == 0) 1 n) (Acquires (step slots 0 0 1 none) (me.0, l))) (sym c.requires.out) (acquires lock.key slots c.args.seat.now.id me.0),
     )
 
 pub returns-clause-got : goal.returns-clause-got
 returns-clause-got g c = λ got.
     let told = c.compare_exchange.ensures.2.0 (eqb-true _ _ got) in
-    let v = c.args.pass.now.me.0 in
+    let v = c.args.seat.now.me.0 in
     (told.0, told.1 ∙ ap (λ (l : List (ℕ × Current)). (holder_of told.0 v, (0, told.0) ∷ l)) c.requires.out, told.2)

@@ -5,9 +5,9 @@ use Rattle.nw_shared_store.proofs.Slots.{slot_of, on_also}
 use Rattle.nw_shared_store.proofs.work.look_round_at.Goals as goal
 
 pub slot_mut-held-requires : goal.slot_mut-held-requires
-slot_mut-held-requires g c = let t = c.requires.held in (c.requires.lock.same, (t.0, slot_of c.args.pass.now.me t.0 t.1))
+slot_mut-held-requires g c = let t = c.requires.held in (c.requires.lock.same, (t.0, slot_of c.args.seat.now.me t.0 t.1))
 
 pub returns-clause-looks : goal.returns-clause-looks
 returns-clause-looks g c =
     let t = c.requires.held in
-    on_also c.args.pass.now.me c.slot_mut-held.result.now t.0 c.slot_mut-held.ensures.value t.1 (IsHeld g.S.Scheme.accepts) (λ d looks. AreLooks (state_of d.history) c.args.round looks.items) c.look_round.result c.look_round.ensures.held c.look_round.ensures.looks
+    on_also c.args.seat.now.me c.slot_mut-held.result.now t.0 c.slot_mut-held.ensures.value t.1 (IsHeld g.S.Scheme.accepts) (λ d looks. AreLooks (state_of d.history) c.args.round looks.items) c.look_round.result c.look_round.ensures.held c.look_round.ensures.looks

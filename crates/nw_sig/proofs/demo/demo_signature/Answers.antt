@@ -1,7 +1,7 @@
 -- Two halves, one after the other.
 use Rattle.std.proofs.Common.{ℕ, List, refl, ap, ◌∙◌}
 use Rattle.nw_codec.specs.declared.certificate.Signature.{Signature}
-use Rattle.nw_sig.proofs.Placed.{put_last}
+use Rattle.nw_codec.proofs.Placed.{put_last}
 use Rattle.nw_sig.proofs.demo.demo_signature.Goals as goal
 
 pub returns : goal.returns

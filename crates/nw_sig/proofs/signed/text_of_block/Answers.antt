@@ -1,7 +1,7 @@
 -- Two pieces, one after the other.
 use Rattle.std.proofs.Common.{refl}
 use Rattle.std.specs.Prelude.{codes}
-use Rattle.nw_sig.proofs.Placed.{put_last}
+use Rattle.nw_codec.proofs.Placed.{put_last}
 use Rattle.nw_sig.specs.Signed.{text_of_block}
 use Rattle.nw_sig.proofs.signed.text_of_block.Goals as goal
 

@@ -1,5 +1,6 @@
 use Rattle.std.proofs.Common.{subst}
-use Rattle.nw_book.specs.Journal.{Guarded, ArePrefixesOf}
+use Rattle.nw_book.specs.Journal.{ArePrefixesOf}
+use Rattle.nw_store.specs.Lock.{Guarded}
 use Rattle.nw_book.proofs.Prefixes.{comparable}
 use Rattle.nw_store.proofs.locked.check_journals_locked.Goals as goal
 

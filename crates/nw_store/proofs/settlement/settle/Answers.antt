@@ -1,6 +1,7 @@
 use Rattle.std.proofs.Common.{List, ◌∙◌, sym, subst}
 use Rattle.std.specs.Prelude.{All}
-use Rattle.nw_book.specs.Journal.{Guarded, Journal, ArePrefixesOf, AreAnswers}
+use Rattle.nw_book.specs.Journal.{Journal, ArePrefixesOf}
+use Rattle.nw_store.specs.Lock.{Guarded, AreAnswers}
 use Rattle.nw_store.proofs.settlement.settle.Goals as goal
 
 pub returns-in-Err-clause-begun : goal.returns-in-Err-clause-begun

@@ -3,8 +3,9 @@ use Rattle.std.specs.Prelude.{All}
 use Rattle.std.proofs.lemmas.List.Sorted.{All-permutation, sum_by-IsPermutation}
 use Rattle.std.specs.List.Sorted.{IsPermutation}
 use Rattle.nw_model.specs.History.{events_of, AreNumbered}
-use Rattle.nw_book.specs.Journal.{Guarded, Journal, ArePrefixesOf, AreAnswers}
-use Rattle.nw_book.specs.Settled.{ids_of, AreAllSessions}
+use Rattle.nw_book.specs.Journal.{Journal, ArePrefixesOf}
+use Rattle.nw_store.specs.Lock.{Guarded, AreAnswers}
+use Rattle.nw_store.specs.Settled.{ids_of, AreAllSessions}
 use Rattle.nw_store.specs.Fault.{IsFirstStray, IsStray}
 use Rattle.nw_store.proofs.Interleaved.{joined}
 use Rattle.nw_store.proofs.Ordered.{all_length, all_from_order, all_in_order, none_of_all, order_from_none}

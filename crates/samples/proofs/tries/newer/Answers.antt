@@ -1,7 +1,7 @@
 use Rattle.std.proofs.Common.{List, []}
 use Rattle.nw_digest.specs.declared.digest.Digest.{Digest}
 use Rattle.nw_codec.specs.declared.block.Block.{Block}
-use Rattle.nw_model.proofs.Maps.{digests_total, digests_apart, put_entries}
+use Rattle.nw_digest.proofs.Maps.{digests_total, digests_apart, put_entries}
 use Rattle.samples.specs.Sample.{name_of}
 use Rattle.samples.proofs.Bases.{next_one}
 use Rattle.samples.proofs.tries.newer.Goals as goal

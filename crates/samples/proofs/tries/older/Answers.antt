@@ -2,7 +2,7 @@ use Rattle.std.proofs.Common.{List}
 use Rattle.std.specs.FinMap.{from_entries}
 use Rattle.nw_digest.specs.declared.digest.Digest.{Digest}
 use Rattle.nw_codec.specs.declared.block.Block.{Block}
-use Rattle.nw_model.proofs.Maps.{digests_total, digests_apart, put_entries}
+use Rattle.nw_digest.proofs.Maps.{digests_total, digests_apart, put_entries}
 use Rattle.samples.specs.Sample.{name_of}
 use Rattle.samples.proofs.Bases.{bases_none, bases_more}
 use Rattle.samples.proofs.tries.older.Goals as goal

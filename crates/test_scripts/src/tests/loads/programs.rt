@@ -2,118 +2,34 @@
 use nw_load::{LoadFault, print_outcome, run};
 use std::alloc::Global;
 use std::io::{self, Write};
-use std::sync::Wait;
 use std::test::Fail;
-use std::thread::Threads;
 
 /// The arguments of the program, what it prints, and its exit status.
-struct Row {
-    words: &'static str,
-    prints: &'static str,
-    status: u8,
-}
-
-const ROWS: [Row; 20] = [
-    Row {
-        words: "load 1 1",
-        prints: "node 0 events 3 last 1\n",
-        status: 0,
-    },
-    Row {
-        words: "load 1 2",
-        prints: "node 0 events 6 last 2\n",
-        status: 0,
-    },
-    Row {
-        words: "load 4 3",
-        prints: "node 0 events 27 last 9\nnode 1 events 27 last 9\nnode 2 events 27 last 9\nnode 3 events 27 last 9\n",
-        status: 0,
-    },
-    Row {
-        words: "load 0 1",
-        prints: "load refused nodes\n",
-        status: 3,
-    },
-    Row {
-        words: "load 2 1",
-        prints: "load refused nodes\n",
-        status: 3,
-    },
-    Row {
-        words: "load 3 1",
-        prints: "load refused nodes\n",
-        status: 3,
-    },
-    Row {
-        words: "load 17 1",
-        prints: "load refused nodes\n",
-        status: 3,
-    },
-    Row {
-        words: "load 19 1",
-        prints: "load refused nodes\n",
-        status: 3,
-    },
-    Row {
-        words: "load 4294967295 1",
-        prints: "load refused nodes\n",
-        status: 3,
-    },
-    Row {
-        words: "load 2 33",
-        prints: "load refused nodes\n",
-        status: 3,
-    },
-    Row {
-        words: "load 1 0",
-        prints: "load refused rounds\n",
-        status: 3,
-    },
-    Row {
-        words: "load 1 33",
-        prints: "load refused rounds\n",
-        status: 3,
-    },
-    Row {
-        words: "load 1 4294967295",
-        prints: "load refused rounds\n",
-        status: 3,
-    },
-    Row {
-        words: "load x 1",
-        prints: "",
-        status: 2,
-    },
-    Row {
-        words: "load 1",
-        prints: "",
-        status: 2,
-    },
-    Row {
-        words: "load 1 1 1",
-        prints: "",
-        status: 2,
-    },
-    Row {
-        words: "load 01 1",
-        prints: "",
-        status: 2,
-    },
-    Row {
-        words: "load 1 4294967296",
-        prints: "",
-        status: 2,
-    },
-    Row {
-        words: "load +1 1",
-        prints: "",
-        status: 2,
-    },
-    Row {
-        words: "play 1 1",
-        prints: "",
-        status: 2,
-    },
+const LOADS: [(&str, &str, u8); 20] = [
+    ("load 1 1", "node 0 events 3 last 1\n", 0),
+    ("load 1 2", "node 0 events 6 last 2\n", 0),
+    (
+        "load 4 3",
+        "node 0 events 27 last 9\nnode 1 events 27 last 9\nnode 2 events 27 last 9\nnode 3 events 27 last 9\n",
+        0,
+    ),
+    ("load 0 1", "load refused nodes\n", 3),
+    ("load 2 1", "load refused nodes\n", 3),
+    ("load 3 1", "load refused nodes\n", 3),
+    ("load 17 1", "load refused nodes\n", 3),
+    ("load 19 1", "load refused nodes\n", 3),
+    ("load 4294967295 1", "load refused nodes\n", 3),
+    ("load 2 33", "load refused nodes\n", 3),
+    ("load 1 0", "load refused rounds\n", 3),
+    ("load 1 33", "load refused rounds\n", 3),
+    ("load 1 4294967295", "load refused rounds\n", 3),
+    ("load x 1", "", 2),
+    ("load 1", "", 2),
+    ("load 1 1 1", "", 2),
+    ("load 01 1", "", 2),
+    ("load 1 4294967296", "", 2),
+    ("load +1 1", "", 2),
+    ("play 1 1", "", 2),
 ];
 
 /// The words of the line.
@@ -125,81 +41,38 @@ fn words_of(alloc: Global, line: &str) -> Result<Vec<String>, Fail> {
     Ok(words)
 }
 
-/// What the program prints, and its exit status.
-fn printed<R: Threads + Wait + Sync>(
-    rt: &R,
-    alloc: Global,
-    line: &str,
-) -> Result<(Vec<u8>, u8), Fail> {
-    let words = words_of(alloc, line)?;
-    let mut out = Vec::new(alloc);
-    let status = run(rt, alloc, &words, &mut out);
-    Ok((out, status))
-}
-
 #[test]
 fn loads_and_refused_loads(rt: HostRuntime) -> Result<(), Fail> {
-    for row in &ROWS {
-        let (out, status) = printed(&rt, rt.alloc(), row.words)?;
-        assert_eq!(rt;
-            (out.as_slice(), status),
-            (row.prints.as_bytes(), row.status),
-            "{}",
-            row.words
-        );
+    for (line, prints, status) in LOADS {
+        let words = words_of(rt.alloc(), line)?;
+        let mut out = Vec::new(rt.alloc());
+        assert_eq!(rt; run(&rt, rt.alloc(), &words, &mut out), status, "{line}");
+        assert_eq!(rt; out.as_slice(), prints.as_bytes(), "{line}");
     }
     Ok(())
 }
 
-/// A fault of a load, and the line that it prints.
-struct Refusal {
-    fault: LoadFault,
-    prints: &'static str,
-}
-
-const REFUSED: [Refusal; 7] = [
-    Refusal {
-        fault: LoadFault::BadNodes,
-        prints: "load refused nodes\n",
-    },
-    Refusal {
-        fault: LoadFault::BadRounds,
-        prints: "load refused rounds\n",
-    },
-    Refusal {
-        fault: LoadFault::NoMemory,
-        prints: "load refused memory\n",
-    },
-    Refusal {
-        fault: LoadFault::Spawn,
-        prints: "load refused spawn\n",
-    },
-    Refusal {
-        fault: LoadFault::GateShut,
-        prints: "load refused gate\n",
-    },
-    Refusal {
-        fault: LoadFault::Causal { node: 3, round: 2 },
-        prints: "load refused causal\n",
-    },
-    Refusal {
-        fault: LoadFault::Unsettled { node: 3 },
-        prints: "load refused unsettled\n",
-    },
+/// Faults of loads, and the line that each prints.
+const REFUSED: [(LoadFault, &str); 7] = [
+    (LoadFault::BadNodes, "load refused nodes\n"),
+    (LoadFault::BadRounds, "load refused rounds\n"),
+    (LoadFault::NoMemory, "load refused memory\n"),
+    (LoadFault::Spawn, "load refused spawn\n"),
+    (LoadFault::GateShut, "load refused gate\n"),
+    (
+        LoadFault::Causal { node: 3, round: 2 },
+        "load refused causal\n",
+    ),
+    (LoadFault::Unsettled { node: 3 }, "load refused unsettled\n"),
 ];
-
-/// Whether the fault prints its line, with status 3.
-fn is_printed(alloc: Global, refusal: &Refusal) -> bool {
-    let outcome = Err(refusal.fault);
-    let mut out = Vec::new(alloc);
-    let status = print_outcome(&outcome, &mut out);
-    status == 3 && out.as_slice() == refusal.prints.as_bytes()
-}
 
 #[test]
 fn each_refusal_of_a_load_has_its_word_and_status_3(rt: HostRuntime) {
-    for refusal in &REFUSED {
-        assert!(rt; is_printed(rt.alloc(), refusal), "{}", refusal.prints);
+    for (fault, prints) in REFUSED {
+        let mut out = Vec::new(rt.alloc());
+        let outcome = Err(fault);
+        assert_eq!(rt; print_outcome(&outcome, &mut out), 3, "{prints}");
+        assert_eq!(rt; out.as_slice(), prints.as_bytes());
     }
 }
 

@@ -2,8 +2,8 @@
 //! the last round. If the slot has another block, that block's name ends with `X`.
 use super::*;
 
-mod parents;
-mod replies;
+pub(super) mod parents;
+pub(super) mod replies;
 
 /// The largest round.
 const LAST: u64 = (1 << 48) - 1;
@@ -33,23 +33,3 @@ const N1: Name = (3, 1, 0);
 const U0: Name = (4, 0, 0);
 
 const Z0: Name = (LAST, 0, 0);
-
-pub(super) const EXAMPLES: [Example; 17] = [
-    replies::EQUIVOCATION,
-    replies::ONE_DIGEST,
-    replies::FAR,
-    replies::FULL,
-    replies::LIMITS,
-    replies::WINDOW,
-    replies::FIRST,
-    parents::WAITS,
-    parents::MISSING,
-    parents::MISSING_OF,
-    parents::ABSENT,
-    parents::COLLECTED,
-    parents::COMPLETED,
-    parents::SKIPPED,
-    parents::UNCERTIFIED,
-    parents::MISNAMED,
-    parents::KEPT,
-];

@@ -1,13 +1,10 @@
 use Rattle.std.proofs.Common.{◌≡◌, ◌≤◌, ◌<◌, ◌-◌, length, map, take, ℕ, suc, ◌+◌, List, [], ◌∷◌, ◌++◌, ap, sym, ◌∙◌, arith, append_assoc, length-append}
 use Rattle.std.specs.Prelude.{slice_set}
-use Rattle.std.specs.List.{flat_map}
 use Rattle.std.proofs.lemmas.Slice.{take-put_mid}
 use Rattle.std.proofs.lemmas.List.{take_more_set, length-set}
 use borrow.Rule.Slice.PartMut.{put_mid, same_len_mid}
+use Rattle.nw_c.proofs.Cut.{joined}
 use Rattle.nw_c.proofs.blocks.transactions.copy_all.Goals as goal
-
-abbrev joined : List (List ℕ) → List ℕ
-joined = flat_map (λ t. t)
 
 pub loop-transaction-preserved : goal.loop-transaction-preserved
 loop-transaction-preserved c =

@@ -1,4 +1,4 @@
-use Rattle.std.proofs.Common.{◌≡◌, ℕ, ◌+◌, ◌*◌, List, [], ◌∷◌, length, refl, ap, arith, length-append}
+use Rattle.std.proofs.Common.{◌≡◌, ℕ, ◌+◌, ◌*◌, List, [], ◌∷◌, length, refl, arith, length-append}
 use Rattle.std.specs.List.{flat_map}
 use Rattle.std.proofs.lemmas.List.Sums.{sum_by-cons}
 use Rattle.nw_codec.specs.Fits.{transactions_size}
@@ -13,18 +13,11 @@ in_body (t ∷ ts) =
     let bytes = length-append t (flat_map (λ t. t) ts) in
     omega (arith, first, rest, bytes)
 
+pub overflow_mul-result : goal.overflow_mul-result
+overflow_mul-result c = omega (arith, c.size.ensures.low, c.size.ensures.size, in_body c.args.transactions.now, c.len.ensures.count)
+
 pub overflow_sub-result : goal.overflow_sub-result
-overflow_sub-result c =
-    let body = c.body_size.ensures.size in
-    let parts = in_body c.args.block.now.transactions in
-    let parents = ap length c.as_slice.ensures in
-    let count = c.len-count.ensures.count in
-    omega (arith, body, parts, parents, count)
+overflow_sub-result c = omega (arith, c.size.ensures.size, in_body c.args.transactions.now, c.len.ensures.count)
 
 pub returns : goal.returns
-returns c =
-    let body = c.body_size.ensures.size in
-    let parts = in_body c.args.block.now.transactions in
-    let parents = ap length c.as_slice.ensures in
-    let count = c.len-count.ensures.count in
-    omega (arith, body, parts, parents, count)
+returns c = omega (arith, c.size.ensures.size, in_body c.args.transactions.now, c.len.ensures.count)

@@ -1,7 +1,7 @@
 use Rattle.std.proofs.Common.{◌≡◌, ℕ, ap, sym, subst, ◌∙◌}
 use Rattle.nw_ed25519.specs.Accepts.{accepts}
 use Rattle.nw_model.specs.declared.look.Look.{Look}
-use Rattle.nw_shared_store.specs.Held.{IsLookAfter}
+use Rattle.nw_book.specs.Answered.{IsLookAfter}
 use Rattle.nw_shared_store.specs.Session.{HasSeen, IsSameSession, SessionView}
 use Rattle.nw_c.specs.Look.{HasLook}
 use Rattle.nw_c.specs.declared.content.Content.{Content}

@@ -21,7 +21,7 @@ returns-then-not-is_signed_by-clause-fault g c =
     let place = rw (c.deref.ensures.value, seals) at c.in-Some.ensures in
     let named : IsTrue c.is_member.result = cc in
     let member = rw (c.get-committee.ensures, committee) at (c.is_member.ensures.member.0 named) in
-    let only = rw (c.requires, c.text_of_vote-text.ensures) at c.is_signed_by.ensures in
+    let only = rw (c.requires, c.text_of_vote-text.ensures, c.subject.ensures) at c.is_signed_by.ensures in
     ((c.is_for.ensures.0 for, place_fresh _ _ _ place), member, λ h. let so : IsTrue c.is_signed_by.result = only.1 h in cc)
 
 pub returns-clause-may_count : goal.returns-clause-may_count
@@ -33,5 +33,5 @@ returns-clause-may_count g c =
     let named : IsTrue c.is_member.result = cc in
     let member = rw (c.get-committee.ensures, committee) at (c.is_member.ensures.member.0 named) in
     let signed : IsTrue c.is_signed_by.result = cc in
-    let own = rw (c.requires, c.text_of_vote-text.ensures) at (c.is_signed_by.ensures.0 signed) in
+    let own = rw (c.requires, c.text_of_vote-text.ensures, c.subject.ensures) at (c.is_signed_by.ensures.0 signed) in
     ((c.is_for.ensures.0 for, place_fresh _ _ _ place), member, own)

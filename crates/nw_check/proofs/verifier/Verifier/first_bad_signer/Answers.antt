@@ -12,7 +12,7 @@ returns-then-not-is_signed_by g c =
     let votes = c.as_slice-seal-items.ensures in
     let within = rw votes at c.loop-seal-test.true in
     let no : c.is_signed_by.result ≡ false = cc in
-    let only = rw (votes, c.text_of_vote-text.ensures) at c.is_signed_by.ensures in
+    let only = rw (votes, c.text_of_vote-text.ensures, c.subject.ensures) at c.is_signed_by.ensures in
     rw votes (first_bad g.S.Scheme.accepts (g.Self.Verifier.members c.args.self.now) c.args.certificate.now c.loop-seal.seal-index _ within c.loop-seal.invariant
     (λ own. let so : IsTrue c.is_signed_by.result = only.1 own in cc))
 
@@ -21,7 +21,7 @@ loop-seal-preserved g c =
     let votes = c.as_slice-seal-items.ensures in
     let within = rw votes at c.loop-seal-test.true in
     let so : IsTrue c.is_signed_by.result = cc in
-    let own = rw (votes, c.text_of_vote-text.ensures) at (c.is_signed_by.ensures.0 so) in
+    let own = rw (votes, c.text_of_vote-text.ensures, c.subject.ensures) at (c.is_signed_by.ensures.0 so) in
     All-more (IsSealOf g.S.Scheme.accepts (g.Self.Verifier.members c.args.self.now) c.args.certificate.now) c.args.certificate.now.votes c.loop-seal.seal-index _ within c.loop-seal.invariant own
 
 pub returns : goal.returns

@@ -1,34 +1,30 @@
-use Rattle.std.proofs.Common.{◌≡◌, None, refl, rules}
+use Rattle.std.proofs.Common.{None, refl}
 use Rattle.nw_codec.specs.declared.error.DecodeError.TheVariants.{VoteOrder}
 use Rattle.nw_codec.specs.Faults.{OfVote, AtDigest, AtSigner, AtSealSignature}
 use Rattle.nw_codec.proofs.Fronts.{later}
 use Rattle.nw_codec.proofs.Fields.{exit, short_as, member_leads}
 use Rattle.nw_codec.proofs.Items.{are_seals}
-use Rattle.nw_codec.proofs.Parts.{subject_leads, seal_ends, vote_lies}
+use Rattle.nw_codec.proofs.Parts.{short_subject, subject_leads, seal_ends, vote_lies}
 use Rattle.nw_codec.proofs.decode.certificate.decode_vote.Goals as goal
 
 pub returns-in_err-subject : goal.returns-in_err-subject
-returns-in_err-subject c = exit _ _ _ _ c.from_residual.ensures.1 (c.in_err-subject.ensures OfVote)
+returns-in_err-subject c = exit _ _ _ _ c.from_residual.ensures.1 (short_subject OfVote _ _ c.in_err-subject.ensures.0 c.in_err-subject.ensures.1)
 
 pub returns-in_err-signer : goal.returns-in_err-signer
 returns-in_err-signer c =
-    let subject = subject_leads OfVote _ _ _ _ _ (c.in_ok-subject.ensures OfVote) in
+    let subject = subject_leads OfVote _ _ c.in_ok-subject.ensures.0 c.in_ok-subject.ensures.2 in
     exit _ _ _ _ c.from_residual-in_err-signer.ensures.1 (later (AtDigest OfVote) (AtSigner 0 None) _ _ _ subject (short_as (AtSigner 0 None) 2 _ _ refl c.in_err-signer.ensures.0 c.in_err-signer.ensures.1))
 
 pub returns-in_err-signature : goal.returns-in_err-signature
 returns-in_err-signature c =
     let next = AtSealSignature 0 c.in_ok-signer.signer in
-    let subject = subject_leads OfVote _ _ _ _ _ (c.in_ok-subject.ensures OfVote) in
+    let subject = subject_leads OfVote _ _ c.in_ok-subject.ensures.0 c.in_ok-subject.ensures.2 in
     let signer = member_leads (AtSigner 0 None) None VoteOrder (AtSealSignature 0) _ _ _ (are_seals.members 0 None) c.in_ok-signer.ensures refl in
     exit _ _ _ _ c.from_residual-in_err-signature.ensures.1 (later (AtDigest OfVote) (AtSigner 0 None) _ _ _ subject (later (AtSigner 0 None) next _ _ _ signer (c.in_err-signature.ensures next (seal_ends c.in_ok-signer.signer))))
 
-pub unwrap-requires : goal.unwrap-requires
-unwrap-requires c = let low = (c.in_ok-subject.ensures OfVote).typed.low_round in search rules
-
 pub returns : goal.returns
 returns c =
-    let subject = c.in_ok-subject.subject in
+    let subject = c.subject_of-subject.result in
     let signer = c.in_ok-signer.signer in
-    let round : c.unwrap.result ≡ subject.round = search rules in
     let last = c.in_ok-signature.ensures (AtSealSignature 0 signer) (seal_ends signer) in
-    rw round (vote_lies _ _ _ (record { digest = subject.digest; round = subject.round; author = subject.author; signer = signer; signature = c.in_ok-signature.signature }) (c.in_ok-subject.ensures OfVote) c.in_ok-signer.ensures last)
+    vote_lies _ _ _ _ (record { digest = subject.digest; round = subject.round; author = subject.author; signer = signer; signature = c.in_ok-signature.signature }) c.in_ok-subject.ensures.1 c.in_ok-subject.ensures.2 c.subject_of-subject.ensures.typed c.subject_of-subject.ensures.bytes c.in_ok-signer.ensures last

@@ -3,7 +3,7 @@ use Rattle.std.proofs.lemmas.List.{length-append, nil_from_length}
 use Rattle.nw_codec.specs.Grammar.{seal_bytes}
 use Rattle.nw_codec.specs.Typed.{IsSeal}
 use Rattle.nw_codec.proofs.Building.{one_more_built, all_built}
-use Rattle.nw_codec.proofs.Parts.{length-seal}
+use Rattle.nw_codec.proofs.Sizes.{length-seal}
 use Rattle.nw_codec.proofs.decode.certificate.seals_of.Goals as goal
 
 pub loop-preserved : goal.loop-preserved

@@ -1,14 +1,19 @@
-use Rattle.std.proofs.Common.{rules, arith}
+use Rattle.std.proofs.Common.{rules, arith, subst}
+use Rattle.std.specs.Prelude.{All}
 use Rattle.std.proofs.lemmas.Grind.{common_steps}
+use Rattle.std.proofs.lemmas.List.{take_all}
 use Rattle.std.proofs.lemmas.List.Elements.{All-more}
 use Rattle.nw_codec.specs.Typed.{IsSeal}
 use Rattle.nw_codec.proofs.encode.certificate.put_seals.Goals as goal
 
 pub loop-seal-preserved : goal.loop-seal-preserved
-loop-seal-preserved c =
-    let put = c.in_ok-put-2.ensures.text _ (c.in_ok-put.ensures.text _ c.loop-seal.invariant.text) in
-    record {
-      text = grind (arith, common_steps);
-      typed = All-more IsSeal c.args.seals.now c.loop-seal.seal-index _ c.loop-seal-test.true c.loop-seal.invariant.typed
-          (record { signer = search rules; signature = record { len = search rules; bytes = c.put-in-loop-seal.ensures.bytes } });
-    }
+loop-seal-preserved g c = record {
+  text = grind (arith, common_steps);
+  room = search rules;
+  place = search rules;
+  typed = All-more IsSeal c.args.seals.now c.loop-seal.seal-index _ c.loop-seal-test.true c.loop-seal.invariant.typed
+      (record { signer = search rules; signature = record { len = search rules; bytes = c.put-in-loop-seal.ensures.bytes } });
+}
+
+pub returns-clause-typed : goal.returns-clause-typed
+returns-clause-typed g c = subst (All IsSeal) (take_all c.loop-seal.seal-index c.args.seals.now c.loop-seal-test.false) c.loop-seal.invariant.typed

@@ -1,4 +1,4 @@
-use Rattle.std.proofs.Common.{◌≡◌, ◌++◌, take}
+use Rattle.std.proofs.Common.{◌≡◌, ◌≤◌, ◌+◌, ◌*◌, ◌++◌, ℕ, List, take}
 use Rattle.std.specs.Prelude.{All}
 use Rattle.std.specs.List.{flat_map}
 use Rattle.nw_codec.specs.Grammar.{seal_bytes}
@@ -7,7 +7,9 @@ use Rattle.nw_codec.proofs.encode.certificate.put_seals.Given as goal
 
 -- the seals so far are appended
 abbrev pub invariant-loop-seal : goal.invariant-loop-seal
-invariant-loop-seal l = record {
-  text : l.text.items ≡ l.fn.text.items ++ flat_map seal_bytes (take l.seal-index l.seals);
+invariant-loop-seal g l = record {
+  text : (text : List ℕ) → g.S.Sink.holds l.fn.sink text → g.S.Sink.holds l.sink (text ++ flat_map seal_bytes (take l.seal-index l.seals));
+  room : g.S.Sink.room l.fn.sink ≤ g.S.Sink.room l.sink + 66 * l.seal-index;
+  place : g.S.Sink.place l.sink ≡ g.S.Sink.place l.fn.sink;
   typed : All IsSeal (take l.seal-index l.seals);
 }

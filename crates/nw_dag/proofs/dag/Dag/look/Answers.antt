@@ -4,7 +4,7 @@ use Rattle.nw_model.specs.Step.{is_held}
 use Rattle.nw_model.specs.declared.look.Look.{Look}
 use Rattle.nw_model.specs.Look.{IsLook}
 use Rattle.nw_model.proofs.Looks.{tells_satisfied}
-use Rattle.nw_dag.proofs.Looks.{complete_none, complete_some}
+use Rattle.nw_plain.proofs.Looks.{complete_none, complete_some}
 use Rattle.nw_dag.proofs.dag.Dag.look.Goals.{in-None, in-Some}
 use Rattle.nw_dag.proofs.dag.Dag.look.Goals as goal
 

@@ -20,7 +20,7 @@ add_if_ready-requires c =
     let inv = c.loop-digest.invariant in
     record {
       pending = λ ready. pending_next s c.args.self.now.missing.lacking digests (take i digests) c.args.self.now.completions.fresh.items c.loop-digest.self.completions.fresh.items c.args.self.now.completions.pending c.loop-digest.self.completions.pending d
-          c.requires.tally inv.added (λ x among. among_front i digests x among) inv.most (Contains-get_or digests i none c.loop-digest-test.true)
+          c.requires.pending inv.added (λ x among. among_front i digests x among) inv.most (Contains-get_or digests i none c.loop-digest-test.true)
           (not_before digests i none c.loop-digest-test.true c.requires.once) (subst (λ (m : Pairs). IsReady s m d) inv.lacking ready);
     }
 

@@ -7,14 +7,14 @@ use Rattle.nw_state.specs.Standing.{Stands}
 use Rattle.nw_dag.specs.Lacking.{LacksNothing, IsReady}
 use Rattle.nw_dag.proofs.Steps.{met_by_name, not_standing, not_ready, now_ready, pending_but, grown_none, grown_from}
 use Rattle.nw_dag.proofs.Wanting.{refuted}
-use Rattle.nw_dag.proofs.Written.{none_is}
+use Rattle.nw_digest.proofs.Found.{not_there}
 use Rattle.nw_dag.proofs.waits.Waits.arrive.Goals as goal
 
 pub returns-in_default : goal.returns-in_default
 returns-in_default c =
     let s : State = c.args.held.now.state in
     let self = c.args.self.now in
-    let never : Stands s c.args.digest → ⊥ = λ stands. none_is c.standing.result c.in_default.is (c.standing.ensures.stands.1 stands) in
+    let never : Stands s c.args.digest → ⊥ = λ stands. not_there c.standing.result c.in_default.is (c.standing.ensures.stands.1 stands) in
     record {
       settled = not_standing s c.args.digest self.missing.unmet self.missing.lacking self.completions.pending never c.requires;
       grown = grown_none s c.args.digest self.missing.lacking self.completions.fresh.items (λ ready. never ready.0);

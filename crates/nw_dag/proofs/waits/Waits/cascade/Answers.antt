@@ -2,11 +2,11 @@ use Rattle.std.proofs.Common.{◌∙◌, refl, sym, subst, arith}
 use Rattle.nw_state.specs.Standing.{Stands}
 use Rattle.nw_dag.specs.Lacking.{IsReady}
 use Rattle.nw_dag.specs.Changes.{Promotes}
-use Rattle.nw_dag.proofs.Steps.{tally_of, stands_at, cascaded, grown_same, grown_more, none_due}
+use Rattle.nw_dag.proofs.Steps.{count_of, stands_at, cascaded, grown_same, grown_more, none_due}
 use Rattle.nw_dag.proofs.waits.Waits.cascade.Goals as goal
 
-pub promote-requires-clause-tally : goal.promote-requires-clause-tally
-promote-requires-clause-tally c = tally_of c.args.held.now.state c.loop-place.self.missing.unmet c.loop-place.self.missing.lacking _ c.loop-place.self.completions.pending c.loop-place.invariant.settling
+pub promote-requires-clause-pending : goal.promote-requires-clause-pending
+promote-requires-clause-pending c = count_of c.args.held.now.state c.loop-place.self.missing.unmet c.loop-place.self.missing.lacking _ c.loop-place.self.completions.pending c.loop-place.invariant.settling
 
 pub promote-requires-clause-stands : goal.promote-requires-clause-stands
 promote-requires-clause-stands c =

@@ -1,13 +1,13 @@
 use Rattle.nw_model.specs.State.{State}
-use Rattle.nw_dag.proofs.Collecting.{dropped_fits, tally_kept, collected, grown_collected}
+use Rattle.nw_dag.proofs.Collecting.{dropped_fits, count_kept, collected, grown_collected}
 use Rattle.nw_dag.proofs.waits.Waits.collect.Goals as goal
 
 pub drop_pending-requires : goal.drop_pending-requires
 drop_pending-requires c = dropped_fits c.args.held.now.state c.args.self.now.missing.unmet c.args.self.now.missing.lacking c.args.self.now.completions.pending c.args.holders.now c.args.dropped c.requires
 
-pub release_each-requires-clause-tally : goal.release_each-requires-clause-tally
-release_each-requires-clause-tally c =
-    tally_kept c.args.held.now.state c.args.self.now.missing.unmet c.args.self.now.missing.lacking c.args.self.now.completions.pending c.args.holders.now c.args.dropped c.requires c.drop_pending.new.self.pending c.drop_pending.ensures.pending
+pub release_each-requires-clause-pending : goal.release_each-requires-clause-pending
+release_each-requires-clause-pending c =
+    count_kept c.args.held.now.state c.args.self.now.missing.unmet c.args.self.now.missing.lacking c.args.self.now.completions.pending c.args.holders.now c.args.dropped c.requires c.drop_pending.new.self.pending c.drop_pending.ensures.pending
 
 pub release_each-requires-clause-once : goal.release_each-requires-clause-once
 release_each-requires-clause-once c = c.requires.digests_up_to.once

@@ -8,7 +8,7 @@ add_if_ready-requires c =
     let self = c.args.self.now in
     record {
       pending = λ ready. subst (λ (r : Completions). 0 < r.pending) (sym c.forget.ensures.completions) (stuck_pending c.args.held.now.state self.missing.lacking c.forget.new.self.missing.lacking c.args.holder self.completions.pending c.forget.ensures.lacking
-          (c.lacks_nothing-lacked_nothing.ensures.something c.if-not-lacked_nothing.true) c.requires.tally ready);
+          (c.lacks_nothing-lacked_nothing.ensures.something c.if-not-lacked_nothing.true) c.requires.pending ready);
     }
 
 pub returns-then-not-lacked_nothing-clause-added : goal.returns-then-not-lacked_nothing-clause-added

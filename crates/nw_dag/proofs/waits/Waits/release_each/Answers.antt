@@ -5,7 +5,7 @@ use Rattle.nw_model.specs.State.{State}
 use Rattle.nw_dag.specs.Changes.{AppendsThose}
 use Rattle.nw_dag.specs.Collection.{AreReleased, StandsButLacks}
 use Rattle.nw_dag.proofs.Listed.{adds_none}
-use Rattle.nw_dag.proofs.Releasing.{without_none, without_more, not_before, stuck_more, tally_released}
+use Rattle.nw_dag.proofs.Releasing.{without_none, without_more, not_before, stuck_more, count_released}
 use Rattle.nw_dag.proofs.waits.Waits.release_each.Goals as goal
 
 pub loop-holder-init : goal.loop-holder-init
@@ -20,8 +20,8 @@ pub release-requires : goal.release-requires
 release-requires c =
     let inv = c.loop-holder.invariant in
     record {
-      tally = tally_released c.args.held.now.state c.args.self.now.missing.lacking c.loop-holder.self.missing.lacking (take c.loop-holder.holder-index c.args.holders.now) c.args.self.now.completions.fresh.items c.loop-holder.self.completions.fresh.items c.args.self.now.completions.pending
-          c.loop-holder.self.completions.pending inv.lacking inv.added inv.most c.requires.tally;
+      pending = count_released c.args.held.now.state c.args.self.now.missing.lacking c.loop-holder.self.missing.lacking (take c.loop-holder.holder-index c.args.holders.now) c.args.self.now.completions.fresh.items c.loop-holder.self.completions.fresh.items c.args.self.now.completions.pending
+          c.loop-holder.self.completions.pending inv.lacking inv.added inv.most c.requires.pending;
     }
 
 pub loop-holder-preserved : goal.loop-holder-preserved

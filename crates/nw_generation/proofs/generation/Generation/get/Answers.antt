@@ -3,7 +3,7 @@ use Rattle.std.specs.FinMap.{FinMap, get}
 use Rattle.nw_digest.specs.declared.digest.Digest.{Digest}
 use Rattle.nw_codec.specs.declared.block.Block.{Block}
 use Rattle.nw_digest.specs.Order.{digest_cmp}
-use Rattle.nw_model.proofs.Maps.{digests_total, get_lookup}
+use Rattle.nw_digest.proofs.Maps.{digests_total, get_lookup}
 use Rattle.nw_generation.specs.Entries.{under}
 use Rattle.nw_generation.specs.Seen.{IsOfRound}
 use Rattle.nw_generation.proofs.generation.Generation.get.Goals as goal

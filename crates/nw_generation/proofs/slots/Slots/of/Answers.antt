@@ -1,8 +1,8 @@
 use Rattle.std.proofs.Common.{◌≡◌, Some}
 use Rattle.std.proofs.lemmas.List.Sorted.{All-permutation}
-use Rattle.nw_generation.specs.declared.slots.Slot.{Slot}
+use Rattle.nw_generation.specs.declared.slots.SlottedBlock.{SlottedBlock}
 use Rattle.nw_generation.specs.Entries.{under}
 use Rattle.nw_generation.proofs.slots.Slots.of.Goals as goal
 
 pub returns : goal.returns
-returns c = All-permutation (λ (s : Slot). under c.args.entries.now s.digest ≡ Some s.block) c.in_ok-slots.slots.items c.sort_by.new.self.items c.sort_by.ensures.permutation c.in_ok-slots.ensures
+returns c = All-permutation (λ (s : SlottedBlock). under c.args.entries.now s.digest ≡ Some s.block) c.in_ok-slots.slots.items c.sort_by.new.self.items c.sort_by.ensures.permutation c.in_ok-slots.ensures

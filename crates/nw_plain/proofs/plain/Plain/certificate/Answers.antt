@@ -1,5 +1,5 @@
 use Rattle.std.proofs.Common.{Some, sym, ◌∙◌, ap}
-use Rattle.nw_model.proofs.Maps.{get_lookup, digests_total}
+use Rattle.nw_digest.proofs.Maps.{get_lookup, digests_total}
 use Rattle.nw_plain.proofs.plain.Plain.certificate.Goals as goal
 
 pub returns-in-None : goal.returns-in-None

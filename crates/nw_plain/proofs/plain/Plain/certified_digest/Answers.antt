@@ -3,7 +3,7 @@ use Rattle.std.specs.FinMap.{from_entries}
 use Rattle.nw_digest.specs.Order.{digest_cmp, slot_cmp}
 use Rattle.nw_model.specs.State.{State}
 use Rattle.nw_model.specs.Step.{certified_digest}
-use Rattle.nw_model.proofs.Maps.{get_lookup, slots_total}
+use Rattle.nw_digest.proofs.Maps.{get_lookup, slots_total}
 use Rattle.nw_model.proofs.Kept.{index_answers}
 use Rattle.nw_plain.proofs.plain.Plain.certified_digest.Goals as goal
 

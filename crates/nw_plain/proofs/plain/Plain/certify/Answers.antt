@@ -9,8 +9,9 @@ use Rattle.nw_codec.specs.declared.certificate.Certificate.{Certificate}
 use Rattle.nw_digest.specs.Order.{digest_cmp, Slot, slot_cmp}
 use Rattle.nw_model.specs.State.{State, certificate_slot}
 use Rattle.nw_model.specs.Step.{certified_digest}
-use Rattle.nw_model.proofs.Maps.{get_lookup, put_entries, digests_total, digests_apart, slots_total, slots_apart}
-use Rattle.nw_plain.proofs.Held.{absent, held_certificate}
+use Rattle.nw_digest.proofs.Maps.{get_lookup, put_entries, digests_total, digests_apart, slots_total, slots_apart}
+use Rattle.nw_digest.proofs.Found.{absent}
+use Rattle.nw_plain.proofs.Held.{held_certificate}
 use Rattle.nw_model.proofs.Kept.{index_answers, kept_after_certify}
 use Rattle.nw_plain.proofs.plain.Plain.certify.Goals as goal
 

@@ -1,5 +1,5 @@
 use Rattle.std.proofs.Common.{sym, ◌∙◌}
-use Rattle.nw_model.proofs.Maps.{get_lookup, slots_total}
+use Rattle.nw_digest.proofs.Maps.{get_lookup, slots_total}
 use Rattle.nw_plain.proofs.plain.Plain.first.Goals as goal
 
 pub returns : goal.returns

@@ -5,7 +5,7 @@ use Rattle.nw_digest.specs.Order.{digest_cmp}
 use Rattle.nw_model.specs.State.{State}
 use Rattle.nw_model.specs.Sound.{IsSound}
 use Rattle.nw_model.specs.View.{Frozen}
-use Rattle.nw_model.proofs.Maps.{get_lookup, digests_total}
+use Rattle.nw_digest.proofs.Maps.{get_lookup, digests_total}
 use Rattle.nw_model.proofs.Complete.{closed, shown, complete_there, complete_not_there}
 use Rattle.nw_plain.proofs.plain.Plain.freeze_for.Goals as goal
 

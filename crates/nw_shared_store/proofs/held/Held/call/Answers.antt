@@ -1,5 +1,5 @@
 use Rattle.std.proofs.Common.{◌<◌, sym, subst}
-use Rattle.nw_book.specs.Answer.{DoneView}
+use Rattle.nw_book.specs.Answer.{AnswerView}
 use Rattle.nw_book.specs.Command.{call_of}
 use Rattle.nw_shared_store.specs.Held.{Current}
 use Rattle.nw_shared_store.proofs.Stepped.{held_after}
@@ -7,5 +7,5 @@ use Rattle.nw_shared_store.proofs.held.Held.call.Goals as goal
 
 pub invariant_of-self : goal.invariant_of-self
 invariant_of-self g c =
-    held_after g.S.Scheme.accepts c.self.inside.book c.step.new.self c.self.inside.run c.self.inside.made c.args.id c.next_number-number.result (call_of c.args.command.now) (λ (done : DoneView). done.event.reply) (λ (done : DoneView). done.front) c.step.result
+    held_after g.S.Scheme.accepts c.self.inside.book c.step.new.self c.self.inside.run c.self.inside.made c.args.id c.next_number-number.result (call_of c.args.command.now) (λ (done : AnswerView). done.event.reply) (λ (done : AnswerView). done.front) c.step.result
     c.self.invariant (subst (λ (x : Current). c.args.id < x.made) (sym c.self.view_is) c.requires) c.step.ensures.taken c.step.ensures.unchanged

@@ -2,7 +2,8 @@ use Rattle.std.proofs.Common.{rules, ◌∙◌, ap, subst}
 use Rattle.nw_book.specs.Journal.{origin_of}
 use Rattle.nw_shared_store.specs.Rule.{knowing}
 use Rattle.nw_shared_store.specs.Session.{IsPresent, IsSameSession, SessionView}
-use Rattle.nw_shared_store.proofs.Answered.{as_before, session_has_value, knows, session_may_free, present_is, same_looked, same_view, session_freed, session_knowing, unseen_of, unchanged_session, view_at}
+use Rattle.nw_shared_store.proofs.Seated.{as_before, session_has_value, session_may_free, same_view, session_freed, unseen_of, unchanged_session, view_at}
+use Rattle.nw_shared_store.proofs.Answered.{knows, present_is, same_reader, session_knowing}
 use Rattle.nw_shared_store.proofs.session.SharedSession.history.Goals as goal
 
 pub returns-in_err-take_in-clause-refused : goal.returns-in_err-take_in-clause-refused
@@ -14,8 +15,8 @@ history_at-requires-clause-held g c = session_has_value _ _ _ _ _ _ c.self.invar
 pub give_back-requires-clause-same : goal.give_back-requires-clause-same
 give_back-requires-clause-same g c = session_may_free _ _ _ _ _ _ c.self.invariant c.in_ok-take_in.ensures.got _ c.history_at.ensures.same
 
-pub end_look-requires-clause-same : goal.end_look-requires-clause-same
-end_look-requires-clause-same g c = session_may_free _ _ _ _ _ _ c.self.invariant c.in_ok-take_in.ensures.got _ c.history_at.ensures.same
+pub end_reading-requires-clause-same : goal.end_reading-requires-clause-same
+end_reading-requires-clause-same g c = session_may_free _ _ _ _ _ _ c.self.invariant c.in_ok-take_in.ensures.got _ c.history_at.ensures.same
 
 pub invariant_of-self-in-Err : goal.invariant_of-self-in-Err
 invariant_of-self-in-Err g c =
@@ -23,7 +24,7 @@ invariant_of-self-in-Err g c =
 
 pub returns-in-Err-clause-same : goal.returns-in-Err-clause-same
 returns-in-Err-clause-same g c =
-    subst (λ (v : SessionView). IsSameSession v (view_at c.self.inside.lock.value.shared.table_id c.give_back.new.pass.me)) c.self.view_is
+    subst (λ (v : SessionView). IsSameSession v (view_at c.self.inside.lock.value.shared.table_id c.give_back.new.seat.me)) c.self.view_is
     (unchanged_session _ _ _ (as_before _ _ _ _ _ _ c.self.invariant c.in_ok-take_in.ensures.got _ _ c.history_at.ensures.same c.give_back.ensures.freed))
 
 pub returns-in-Err-clause-unchanged : goal.returns-in-Err-clause-unchanged
@@ -32,18 +33,18 @@ returns-in-Err-clause-unchanged g c =
 
 pub invariant_of-self-2 : goal.invariant_of-self-2
 invariant_of-self-2 g c =
-    session_knowing g.S.Scheme.accepts _ _ _ _ _ _ c.self.invariant c.in_ok-take_in.ensures.got _ _ c.history_at.ensures.same c.end_look.ensures.looked _ (c.end_look.ensures.at ∙ (c.history_at.ensures.at ∙ c.take_in.ensures.at))
+    session_knowing g.S.Scheme.accepts _ _ _ _ _ _ c.self.invariant c.in_ok-take_in.ensures.got _ _ c.history_at.ensures.same c.end_reading.ensures.read _ (c.end_reading.ensures.at ∙ (c.history_at.ensures.at ∙ c.take_in.ensures.at))
 
 pub returns-clause-present : goal.returns-clause-present
 returns-clause-present g c =
     subst (λ (v : SessionView). IsPresent g.S.Scheme.accepts (origin_of v.first) v.journal c.in-Ok.now.0 c.in-Ok.now.1) c.self.view_is
-    (present_is g.S.Scheme.accepts _ _ _ _ _ _ c.self.invariant c.in_ok-take_in.ensures.got _ _ c.history_at.ensures.same c.end_look.ensures.looked _ _ c.in-Ok.ensures.found)
+    (present_is g.S.Scheme.accepts _ _ _ _ _ _ c.self.invariant c.in_ok-take_in.ensures.got _ _ c.history_at.ensures.same c.end_reading.ensures.read _ _ c.in-Ok.ensures.found)
 
 pub returns-clause-knows : goal.returns-clause-knows
 returns-clause-knows g c =
-    knows g.S.Scheme.accepts _ _ _ _ _ _ c.self.invariant c.in_ok-take_in.ensures.got _ _ c.history_at.ensures.same c.end_look.ensures.looked _ _ c.in-Ok.ensures.found ∙ ap (λ (v : SessionView). knowing v.journal c.in-Ok.now.0) c.self.view_is
+    knows g.S.Scheme.accepts _ _ _ _ _ _ c.self.invariant c.in_ok-take_in.ensures.got _ _ c.history_at.ensures.same c.end_reading.ensures.read _ _ c.in-Ok.ensures.found ∙ ap (λ (v : SessionView). knowing v.journal c.in-Ok.now.0) c.self.view_is
 
 pub returns-clause-same : goal.returns-clause-same
 returns-clause-same g c =
-    subst (λ (v : SessionView). IsSameSession v (view_at c.self.inside.lock.value.shared.table_id c.end_look.new.pass.me)) c.self.view_is
-    (same_looked g.S.Scheme.accepts _ _ _ _ _ _ c.self.invariant c.in_ok-take_in.ensures.got _ _ c.history_at.ensures.same c.end_look.ensures.looked)
+    subst (λ (v : SessionView). IsSameSession v (view_at c.self.inside.lock.value.shared.table_id c.end_reading.new.seat.me)) c.self.view_is
+    (same_reader g.S.Scheme.accepts _ _ _ _ _ _ c.self.invariant c.in_ok-take_in.ensures.got _ _ c.history_at.ensures.same c.end_reading.ensures.read)

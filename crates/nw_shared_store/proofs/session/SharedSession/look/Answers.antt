@@ -1,7 +1,8 @@
 use Rattle.std.proofs.Common.{rules, ◌∙◌, subst}
-use Rattle.nw_shared_store.specs.Held.{IsLookAfter}
+use Rattle.nw_book.specs.Answered.{IsLookAfter}
 use Rattle.nw_shared_store.specs.Session.{HasSeen, IsSameSession, SessionView}
-use Rattle.nw_shared_store.proofs.Answered.{session_has_value, session_may_free, same_looked, seen, session_knowing, unseen_of, view_at}
+use Rattle.nw_shared_store.proofs.Seated.{session_has_value, session_may_free, unseen_of, view_at}
+use Rattle.nw_shared_store.proofs.Answered.{same_reader, seen, session_knowing}
 use Rattle.nw_shared_store.proofs.session.SharedSession.look.Goals as goal
 
 pub returns-in_err-take_in-clause-refused : goal.returns-in_err-take_in-clause-refused
@@ -10,19 +11,19 @@ returns-in_err-take_in-clause-refused g c = unseen_of c.from_residual.result (se
 pub look_at-look-requires-clause-held : goal.look_at-look-requires-clause-held
 look_at-look-requires-clause-held g c = session_has_value _ _ _ _ _ _ c.self.invariant c.in_ok-take_in.ensures.got
 
-pub end_look-requires-clause-same : goal.end_look-requires-clause-same
-end_look-requires-clause-same g c = session_may_free _ _ _ _ _ _ c.self.invariant c.in_ok-take_in.ensures.got _ c.look_at-look.ensures.same
+pub end_reading-requires-clause-same : goal.end_reading-requires-clause-same
+end_reading-requires-clause-same g c = session_may_free _ _ _ _ _ _ c.self.invariant c.in_ok-take_in.ensures.got _ c.look_at-look.ensures.same
 
 pub invariant_of-self-2 : goal.invariant_of-self-2
 invariant_of-self-2 g c =
-    session_knowing g.S.Scheme.accepts _ _ _ _ _ _ c.self.invariant c.in_ok-take_in.ensures.got _ _ c.look_at-look.ensures.same c.end_look.ensures.looked _ (c.end_look.ensures.at ∙ (c.look_at-look.ensures.at ∙ c.take_in.ensures.at))
+    session_knowing g.S.Scheme.accepts _ _ _ _ _ _ c.self.invariant c.in_ok-take_in.ensures.got _ _ c.look_at-look.ensures.same c.end_reading.ensures.read _ (c.end_reading.ensures.at ∙ (c.look_at-look.ensures.at ∙ c.take_in.ensures.at))
 
 pub returns-clause-same : goal.returns-clause-same
 returns-clause-same g c =
-    subst (λ (v : SessionView). IsSameSession v (view_at c.self.inside.lock.value.shared.table_id c.end_look.new.pass.me)) c.self.view_is
-    (same_looked g.S.Scheme.accepts _ _ _ _ _ _ c.self.invariant c.in_ok-take_in.ensures.got _ _ c.look_at-look.ensures.same c.end_look.ensures.looked)
+    subst (λ (v : SessionView). IsSameSession v (view_at c.self.inside.lock.value.shared.table_id c.end_reading.new.seat.me)) c.self.view_is
+    (same_reader g.S.Scheme.accepts _ _ _ _ _ _ c.self.invariant c.in_ok-take_in.ensures.got _ _ c.look_at-look.ensures.same c.end_reading.ensures.read)
 
 pub returns-clause-seen : goal.returns-clause-seen
 returns-clause-seen g c =
-    subst (λ (v : SessionView). HasSeen g.S.Scheme.accepts v (view_at c.self.inside.lock.value.shared.table_id c.end_look.new.pass.me) (λ h. IsLookAfter h (c.args.round, c.args.author) c.look_at-look.result)) c.self.view_is
-    (seen g.S.Scheme.accepts _ _ _ _ _ _ c.self.invariant c.in_ok-take_in.ensures.got _ _ c.look_at-look.ensures.same c.end_look.ensures.looked (λ h. IsLookAfter h (c.args.round, c.args.author) c.look_at-look.result) c.look_at-look.ensures.look)
+    subst (λ (v : SessionView). HasSeen g.S.Scheme.accepts v (view_at c.self.inside.lock.value.shared.table_id c.end_reading.new.seat.me) (λ h. IsLookAfter h (c.args.round, c.args.author) c.look_at-look.result)) c.self.view_is
+    (seen g.S.Scheme.accepts _ _ _ _ _ _ c.self.invariant c.in_ok-take_in.ensures.got _ _ c.look_at-look.ensures.same c.end_reading.ensures.read (λ h. IsLookAfter h (c.args.round, c.args.author) c.look_at-look.result) c.look_at-look.ensures.look)

@@ -2,7 +2,8 @@ use Rattle.std.proofs.Common.{rules, ◌∙◌, subst}
 use Rattle.nw_history.specs.Story.{state_of}
 use Rattle.nw_model.specs.Look.{AreLooks}
 use Rattle.nw_shared_store.specs.Session.{HasSeen, IsSameSession, SessionView}
-use Rattle.nw_shared_store.proofs.Answered.{as_before, session_has_value, session_may_free, same_looked, same_view, seen, session_freed, session_knowing, unseen_of, unchanged_session, view_at}
+use Rattle.nw_shared_store.proofs.Seated.{as_before, session_has_value, session_may_free, same_view, session_freed, unseen_of, unchanged_session, view_at}
+use Rattle.nw_shared_store.proofs.Answered.{same_reader, seen, session_knowing}
 use Rattle.nw_shared_store.proofs.session.SharedSession.look_round.Goals as goal
 
 pub returns-in_err-take_in-clause-refused : goal.returns-in_err-take_in-clause-refused
@@ -11,22 +12,22 @@ returns-in_err-take_in-clause-refused g c = unseen_of c.from_residual.result (se
 pub look_round_at-requires-clause-held : goal.look_round_at-requires-clause-held
 look_round_at-requires-clause-held g c = session_has_value _ _ _ _ _ _ c.self.invariant c.in_ok-take_in.ensures.got
 
-pub end_look-requires-clause-same : goal.end_look-requires-clause-same
-end_look-requires-clause-same g c = session_may_free _ _ _ _ _ _ c.self.invariant c.in_ok-take_in.ensures.got _ c.look_round_at.ensures.same
+pub end_reading-requires-clause-same : goal.end_reading-requires-clause-same
+end_reading-requires-clause-same g c = session_may_free _ _ _ _ _ _ c.self.invariant c.in_ok-take_in.ensures.got _ c.look_round_at.ensures.same
 
 pub invariant_of-self-2 : goal.invariant_of-self-2
 invariant_of-self-2 g c =
-    session_knowing g.S.Scheme.accepts _ _ _ _ _ _ c.self.invariant c.in_ok-take_in.ensures.got _ _ c.look_round_at.ensures.same c.end_look.ensures.looked _ (c.end_look.ensures.at ∙ (c.look_round_at.ensures.at ∙ c.take_in.ensures.at))
+    session_knowing g.S.Scheme.accepts _ _ _ _ _ _ c.self.invariant c.in_ok-take_in.ensures.got _ _ c.look_round_at.ensures.same c.end_reading.ensures.read _ (c.end_reading.ensures.at ∙ (c.look_round_at.ensures.at ∙ c.take_in.ensures.at))
 
 pub returns-clause-same : goal.returns-clause-same
 returns-clause-same g c =
-    subst (λ (v : SessionView). IsSameSession v (view_at c.self.inside.lock.value.shared.table_id c.end_look.new.pass.me)) c.self.view_is
-    (same_looked g.S.Scheme.accepts _ _ _ _ _ _ c.self.invariant c.in_ok-take_in.ensures.got _ _ c.look_round_at.ensures.same c.end_look.ensures.looked)
+    subst (λ (v : SessionView). IsSameSession v (view_at c.self.inside.lock.value.shared.table_id c.end_reading.new.seat.me)) c.self.view_is
+    (same_reader g.S.Scheme.accepts _ _ _ _ _ _ c.self.invariant c.in_ok-take_in.ensures.got _ _ c.look_round_at.ensures.same c.end_reading.ensures.read)
 
 pub returns-clause-seen : goal.returns-clause-seen
 returns-clause-seen g c =
-    subst (λ (v : SessionView). HasSeen g.S.Scheme.accepts v (view_at c.self.inside.lock.value.shared.table_id c.end_look.new.pass.me) (λ h. AreLooks (state_of h) c.args.round c.in-Ok.looks.items)) c.self.view_is
-    (seen g.S.Scheme.accepts _ _ _ _ _ _ c.self.invariant c.in_ok-take_in.ensures.got _ _ c.look_round_at.ensures.same c.end_look.ensures.looked (λ h. AreLooks (state_of h) c.args.round c.in-Ok.looks.items) c.in-Ok.ensures.looks)
+    subst (λ (v : SessionView). HasSeen g.S.Scheme.accepts v (view_at c.self.inside.lock.value.shared.table_id c.end_reading.new.seat.me) (λ h. AreLooks (state_of h) c.args.round c.in-Ok.looks.items)) c.self.view_is
+    (seen g.S.Scheme.accepts _ _ _ _ _ _ c.self.invariant c.in_ok-take_in.ensures.got _ _ c.look_round_at.ensures.same c.end_reading.ensures.read (λ h. AreLooks (state_of h) c.args.round c.in-Ok.looks.items) c.in-Ok.ensures.looks)
 
 pub give_back-requires-clause-same : goal.give_back-requires-clause-same
 give_back-requires-clause-same g c = session_may_free _ _ _ _ _ _ c.self.invariant c.in_ok-take_in.ensures.got _ c.look_round_at.ensures.same
@@ -37,7 +38,7 @@ invariant_of-self-in-Err g c =
 
 pub returns-in-Err-clause-same : goal.returns-in-Err-clause-same
 returns-in-Err-clause-same g c =
-    subst (λ (v : SessionView). IsSameSession v (view_at c.self.inside.lock.value.shared.table_id c.give_back.new.pass.me)) c.self.view_is
+    subst (λ (v : SessionView). IsSameSession v (view_at c.self.inside.lock.value.shared.table_id c.give_back.new.seat.me)) c.self.view_is
     (unchanged_session _ _ _ (as_before _ _ _ _ _ _ c.self.invariant c.in_ok-take_in.ensures.got _ _ c.look_round_at.ensures.same c.give_back.ensures.freed))
 
 pub returns-in-Err-clause-unchanged : goal.returns-in-Err-clause-unchanged

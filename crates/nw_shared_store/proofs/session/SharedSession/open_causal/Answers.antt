@@ -6,7 +6,8 @@ use Rattle.nw_book.specs.Journal.{origin_of}
 use Rattle.nw_book.specs.Settled.{IsJournalOf}
 use Rattle.nw_shared_store.specs.Session.{IsRefused, IsSameSession, SessionView}
 use Rattle.nw_shared_store.specs.declared.error.Refusal.TheVariants as refusals
-use Rattle.nw_shared_store.proofs.Answered.{may_call, session_may_free, may_end, same_called, refused_of, unchanged_session, view_at, refused, session_freed, session_after, explained, own, as_before, same_view}
+use Rattle.nw_shared_store.proofs.Seated.{session_may_free, refused_of, unchanged_session, view_at, session_freed, as_before, same_view}
+use Rattle.nw_shared_store.proofs.Answered.{may_call, may_end, same_called, refused, session_after, explained, own}
 use Rattle.nw_shared_store.proofs.session.SharedSession.open_causal.Goals as goal
 
 pub open_at-requires-clause-held : goal.open_at-requires-clause-held
@@ -32,7 +33,7 @@ returns-in-Err-clause-refused g c =
 
 pub returns-in-Err-clause-same : goal.returns-in-Err-clause-same
 returns-in-Err-clause-same g c =
-    subst (λ (v : SessionView). IsSameSession v (view_at c.self.inside.lock.value.shared.table_id c.give_back.new.pass.me)) c.self.view_is
+    subst (λ (v : SessionView). IsSameSession v (view_at c.self.inside.lock.value.shared.table_id c.give_back.new.seat.me)) c.self.view_is
     (unchanged_session _ _ _ (as_before _ _ _ _ _ _ c.self.invariant c.in_ok-take_in.ensures.got _ _ c.in-Err.ensures.unchanged c.give_back.ensures.freed))
 
 pub returns-in-Err-clause-unchanged : goal.returns-in-Err-clause-unchanged
@@ -45,17 +46,17 @@ invariant_of-self-2 g c =
 
 pub returns-clause-answered : goal.returns-clause-answered
 returns-clause-answered g c =
-    subst (λ (v : SessionView). IsExplained g.S.Scheme.accepts (origin_of v.first) v.journal c.end_call.new.pass.me.0.journal (Call.Causal c.args.digest) (reply_of c.in-Ok.answer) (front_of c.in-Ok.answer)) c.self.view_is
+    subst (λ (v : SessionView). IsExplained g.S.Scheme.accepts (origin_of v.first) v.journal c.end_call.new.seat.me.0.journal (Call.Causal c.args.digest) (reply_of c.in-Ok.answer) (front_of c.in-Ok.answer)) c.self.view_is
     (explained g.S.Scheme.accepts _ _ _ _ _ _ c.self.invariant c.in_ok-take_in.ensures.got None _ _ _ _ c.open_at.ensures.view c.in-Ok.ensures.taken _ c.end_call.ensures.released)
 
 pub returns-clause-own_calls : goal.returns-clause-own_calls
 returns-clause-own_calls g c =
-    subst (λ (v : SessionView). IsJournalOf (front_of c.in-Ok.answer) v.journal.id c.end_call.new.pass.me.0.journal) c.self.view_is
+    subst (λ (v : SessionView). IsJournalOf (front_of c.in-Ok.answer) v.journal.id c.end_call.new.seat.me.0.journal) c.self.view_is
     (own g.S.Scheme.accepts _ _ _ _ _ _ c.self.invariant c.in_ok-take_in.ensures.got None _ _ _ _ c.open_at.ensures.view c.in-Ok.ensures.taken _ c.end_call.ensures.released)
 
 pub returns-clause-same : goal.returns-clause-same
 returns-clause-same g c =
-    subst (λ (v : SessionView). IsSameSession v (view_at c.self.inside.lock.value.shared.table_id c.end_call.new.pass.me)) c.self.view_is
+    subst (λ (v : SessionView). IsSameSession v (view_at c.self.inside.lock.value.shared.table_id c.end_call.new.seat.me)) c.self.view_is
     (same_called g.S.Scheme.accepts _ _ _ _ _ _ c.self.invariant c.in_ok-take_in.ensures.got None _ _ _ _ c.open_at.ensures.view c.in-Ok.ensures.taken _ c.end_call.ensures.released)
 
 pub returns-in_err-take_in-clause-refused : goal.returns-in_err-take_in-clause-refused

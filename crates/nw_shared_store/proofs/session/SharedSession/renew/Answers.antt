@@ -1,22 +1,23 @@
 use Rattle.std.proofs.Common.{◌∙◌, refl, subst}
 use Rattle.nw_shared_store.specs.Session.{IsRenewed, SessionView}
-use Rattle.nw_shared_store.proofs.Answered.{has_value, may_free, may_renew, renewed, session_renewed, session_stayed, stayed, view_at}
+use Rattle.nw_shared_store.proofs.Seated.{has_value, may_free, view_at}
+use Rattle.nw_shared_store.proofs.Renewed.{may_renew, renewed, session_renewed, session_stayed, stayed}
 use Rattle.nw_shared_store.proofs.session.SharedSession.renew.Goals as goal
 
 pub run_at-present-requires-clause-held : goal.run_at-present-requires-clause-held
 run_at-present-requires-clause-held g c = has_value _ _ (c.if-not-try_take.ensures.got refl)
 
-pub end_look-requires-clause-same : goal.end_look-requires-clause-same
-end_look-requires-clause-same g c = may_free _ _ _ (c.if-not-try_take.ensures.got refl) c.run_at-present.ensures.same
+pub end_reading-requires-clause-same : goal.end_reading-requires-clause-same
+end_reading-requires-clause-same g c = may_free _ _ _ (c.if-not-try_take.ensures.got refl) c.run_at-present.ensures.same
 
 pub invariant_of-self-then-present-self : goal.invariant_of-self-then-present-self
 invariant_of-self-then-present-self g c =
-    session_stayed g.S.Scheme.accepts _ _ _ _ _ _ c.self.invariant (c.if-not-try_take.ensures.got refl) _ c.run_at-present.ensures.same _ c.run_at-present.ensures.run c.if-present-self.true _ c.end_look.ensures.looked _ (c.end_look.ensures.at ∙ (c.run_at-present.ensures.at ∙ c.try_take.ensures.at))
+    session_stayed g.S.Scheme.accepts _ _ _ _ _ _ c.self.invariant (c.if-not-try_take.ensures.got refl) _ c.run_at-present.ensures.same _ c.run_at-present.ensures.run c.if-present-self.true _ c.end_reading.ensures.read _ (c.end_reading.ensures.at ∙ (c.run_at-present.ensures.at ∙ c.try_take.ensures.at))
 
 pub returns-then-present-self-clause-renewed : goal.returns-then-present-self-clause-renewed
 returns-then-present-self-clause-renewed g c =
-    subst (λ (v : SessionView). IsRenewed g.S.Scheme.accepts v (view_at c.self.inside.lock.value.shared.table_id c.end_look.new.pass.me)) c.self.view_is
-    (stayed g.S.Scheme.accepts _ _ _ _ _ _ c.self.invariant (c.if-not-try_take.ensures.got refl) _ c.run_at-present.ensures.same _ c.run_at-present.ensures.run c.if-present-self.true _ c.end_look.ensures.looked)
+    subst (λ (v : SessionView). IsRenewed g.S.Scheme.accepts v (view_at c.self.inside.lock.value.shared.table_id c.end_reading.new.seat.me)) c.self.view_is
+    (stayed g.S.Scheme.accepts _ _ _ _ _ _ c.self.invariant (c.if-not-try_take.ensures.got refl) _ c.run_at-present.ensures.same _ c.run_at-present.ensures.run c.if-present-self.true _ c.end_reading.ensures.read)
 
 pub join-requires-clause-joins : goal.join-requires-clause-joins
 join-requires-clause-joins g c =
@@ -28,5 +29,5 @@ invariant_of-self-2 g c =
 
 pub returns-clause-renewed : goal.returns-clause-renewed
 returns-clause-renewed g c =
-    subst (λ (v : SessionView). IsRenewed g.S.Scheme.accepts v (view_at c.self.inside.lock.value.shared.table_id c.join.new.pass.me)) c.self.view_is
+    subst (λ (v : SessionView). IsRenewed g.S.Scheme.accepts v (view_at c.self.inside.lock.value.shared.table_id c.join.new.seat.me)) c.self.view_is
     (renewed g.S.Scheme.accepts _ _ _ _ _ _ c.self.invariant (c.if-not-try_take.ensures.got refl) _ c.run_at-present.ensures.same _ c.run_at-present.ensures.run c.if-present-self.false _ c.join.ensures.joined)

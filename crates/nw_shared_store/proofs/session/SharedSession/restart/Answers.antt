@@ -1,6 +1,7 @@
 use Rattle.std.proofs.Common.{rules, ◌∙◌, subst}
 use Rattle.nw_shared_store.specs.Session.{IsRestarted, SessionView}
-use Rattle.nw_shared_store.proofs.Answered.{as_before, session_has_value, session_may_free, may_restart, restarted, same_view, session_freed, session_restarted, unseen_of, view_at}
+use Rattle.nw_shared_store.proofs.Seated.{as_before, session_has_value, session_may_free, same_view, session_freed, unseen_of, view_at}
+use Rattle.nw_shared_store.proofs.Answered.{may_restart, restarted, session_restarted}
 use Rattle.nw_shared_store.proofs.session.SharedSession.restart.Goals as goal
 
 pub returns-in_err-take_in-clause-refused : goal.returns-in_err-take_in-clause-refused
@@ -30,5 +31,5 @@ invariant_of-self-2 g c =
 
 pub returns-clause-restarted : goal.returns-clause-restarted
 returns-clause-restarted g c =
-    subst (λ (v : SessionView). IsRestarted g.S.Scheme.accepts v (view_at c.self.inside.lock.value.shared.table_id c.join.new.pass.me) c.in-Ok.ended.0) c.self.view_is
+    subst (λ (v : SessionView). IsRestarted g.S.Scheme.accepts v (view_at c.self.inside.lock.value.shared.table_id c.join.new.seat.me) c.in-Ok.ended.0) c.self.view_is
     (restarted g.S.Scheme.accepts _ _ _ _ _ _ c.self.invariant c.in_ok-take_in.ensures.got _ _ _ c.restart_at.ensures.view c.in-Ok.ensures.restarted _ c.join.ensures.joined)

@@ -1,5 +1,5 @@
 use Rattle.std.proofs.Common.{refl}
-use Rattle.nw_shared_store.proofs.Answered.{has_value, may_free}
+use Rattle.nw_shared_store.proofs.Seated.{has_value, may_free}
 use Rattle.nw_shared_store.proofs.store.SharedStore.history.Goals as goal
 
 pub history_at-found-requires-clause-held : goal.history_at-found-requires-clause-held

@@ -7,7 +7,7 @@ use Rattle.nw_digest.specs.declared.digest.Digest.{Digest}
 use Rattle.nw_digest.specs.Order.{slot_cmp}
 use Rattle.nw_codec.specs.declared.certificate.Certificate.{Certificate}
 use Rattle.nw_model.specs.State.{State, certificate_slot}
-use Rattle.nw_model.proofs.Maps.{slots_total}
+use Rattle.nw_digest.proofs.Maps.{slots_total}
 use Rattle.nw_state.proofs.Gathered.{gathered, gathers_none}
 use Rattle.nw_state.proofs.Copied.{GathersSlots, IsCertifiedAt, certified_put, certified_skip}
 use Rattle.nw_state.proofs.tables.StateTables.copy_certified.Goals as goal

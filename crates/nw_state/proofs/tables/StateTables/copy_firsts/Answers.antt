@@ -1,14 +1,15 @@
 use Rattle.std.proofs.Common.{◌≡◌, ◌+◌, true, false, List, [], ◌∷◌, ◌++◌, Some, get_or, take, sym, ap, ◌∙◌, subst}
 use Rattle.std.proofs.lemmas.List.{take_all, take_more}
+use Rattle.std.proofs.lemmas.Option.{same_Some}
 use Rattle.std.specs.BTreeMap.{insert_entry}
 use Rattle.std.specs.FinMap.{from_entries, get, same_map}
 use Rattle.nw_digest.specs.declared.digest.Digest.{Digest}
 use Rattle.nw_digest.specs.Order.{slot_cmp}
 use Rattle.nw_model.specs.declared.wanted.Wanted.{Wanted}
 use Rattle.nw_model.specs.State.{State}
-use Rattle.nw_model.proofs.Maps.{slots_apart, slots_total}
+use Rattle.nw_digest.proofs.Maps.{slots_apart, slots_total}
 use Rattle.nw_state.proofs.Slotted.{named_decides}
-use Rattle.nw_state.proofs.Gathered.{gathered, gathers_none, one, same_values}
+use Rattle.nw_state.proofs.Gathered.{gathered, gathers_none, same_values}
 use Rattle.nw_state.proofs.Copied.{AreVoted, GathersSlots, IsFirstAt, first_put, first_skip, named, no_some, not_named}
 use Rattle.nw_state.proofs.tables.StateTables.copy_firsts.Goals as goal
 use Rattle.nw_state.proofs.tables.StateTables.copy_firsts.Goals.{in-Some+then-eq+in_ok-insert, in-Some+else-eq, in_default}
@@ -38,7 +39,7 @@ loop-digest-preserved c =
           rw w.firsts-is
           (first_skip s voted seen d (from_entries c.loop-digest.firsts.entries) c.loop-digest.invariant (λ x held first.
           let slots : get s.firsts (w.in-Some.name.round, w.in-Some.name.author) ≡ Some d =
-          ap (λ (name : Wanted). get s.firsts (name.round, name.author)) (sym is) ∙ ap (λ y. get s.firsts (y.round, y.author)) (one b x (sym there ∙ held)) ∙ first in
+          ap (λ (name : Wanted). get s.firsts (name.round, name.author)) (sym is) ∙ ap (λ y. get s.firsts (y.round, y.author)) (same_Some b x (sym there ∙ held)) ∙ first in
           let found : w.first.result ≡ Some d = w.first.ensures ∙ (rw (← c.self.view_is) at slots) in
           let no : true ≡ false = sym (w.eq.ensures ∙ (named_decides w.first.result d).1 found) ∙ w.if-eq.false in
           absurd cc))

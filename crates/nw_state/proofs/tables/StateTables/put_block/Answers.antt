@@ -5,8 +5,9 @@ use Rattle.std.specs.BTreeMap.{is_at}
 use Rattle.nw_codec.specs.declared.block.Block.{Block}
 use Rattle.nw_digest.specs.Order.{digest_cmp}
 use Rattle.nw_model.specs.State.{block_slot}
-use Rattle.nw_model.proofs.Maps.{get_lookup, digests_total}
-use Rattle.nw_state.proofs.Puts.{absent, taken_back, block_held, same_held}
+use Rattle.nw_digest.proofs.Maps.{get_lookup, digests_total}
+use Rattle.nw_digest.proofs.Found.{absent}
+use Rattle.nw_state.proofs.Puts.{taken_back, block_held, same_held}
 use Rattle.nw_state.proofs.tables.StateTables.put_block.Goals as goal
 
 pub invariant_of-self-in-Err : goal.invariant_of-self-in-Err

@@ -6,10 +6,11 @@ use Rattle.nw_codec.specs.declared.certificate.Certificate.{Certificate}
 use Rattle.nw_digest.specs.Order.{digest_cmp}
 use Rattle.nw_model.specs.State.{State, certificate_slot}
 use Rattle.nw_model.specs.Step.{certified_digest}
-use Rattle.nw_model.proofs.Maps.{get_lookup, digests_total}
+use Rattle.nw_digest.proofs.Maps.{get_lookup, digests_total}
+use Rattle.nw_digest.proofs.Found.{absent}
 use Rattle.nw_model.proofs.Kept.{index_answers}
 use Rattle.nw_state.specs.StateTables.{state_of}
-use Rattle.nw_state.proofs.Puts.{absent, taken_back, certificate_held, same_certified}
+use Rattle.nw_state.proofs.Puts.{taken_back, certificate_held, same_certified}
 use Rattle.nw_state.proofs.tables.StateTables.put_certificate.Goals as goal
 
 pub put_certified-requires : goal.put_certified-requires

@@ -1,14 +1,15 @@
 use Rattle.std.proofs.Common.{◌≡◌, ◌+◌, List, [], ◌∷◌, ◌++◌, Some, get_or, take, sym, ap, ◌∙◌, subst}
 use Rattle.std.proofs.lemmas.List.{take_all, take_more}
+use Rattle.std.proofs.lemmas.Option.{same_Some}
 use Rattle.std.specs.Option.{option_copied}
 use Rattle.std.specs.Map.{lookup}
 use Rattle.std.specs.BTreeMap.{insert_entry, is_at}
 use Rattle.std.specs.FinMap.{from_entries, same_map}
 use Rattle.nw_digest.specs.declared.digest.Digest.{Digest}
 use Rattle.nw_digest.specs.Order.{digest_cmp}
-use Rattle.nw_model.proofs.Maps.{digests_apart, digests_total, get_lookup}
+use Rattle.nw_digest.proofs.Maps.{digests_apart, digests_total, get_lookup}
 use Rattle.nw_state.proofs.Copied.{no_some}
-use Rattle.nw_state.proofs.Gathered.{Gathers, gathered, gathers_entry, gathers_none, gathers_skip, one, same_values}
+use Rattle.nw_state.proofs.Gathered.{Gathers, gathered, gathers_entry, gathers_none, gathers_skip, same_values}
 use Rattle.nw_state.proofs.tables.copies.shared_entries.Goals as goal
 use Rattle.nw_state.proofs.tables.copies.shared_entries.Goals.{in-Some+in_ok-try_clone+in_ok-insert+in-Some-1, in-Some+in_ok-try_clone+in_ok-insert+in-None-1, in_default}
 
@@ -19,7 +20,7 @@ shared_put : {V : Type 0} (entries : List (Digest × V)) (seen : List Digest) (d
     → Gathers {R = digest_cmp} (λ d v. d) (λ d v. lookup (is_at (digest_cmp d)) entries ≡ Some v) (seen ++ d ∷ []) (from_entries new)
 shared_put entries seen d old new v x gathers there same put =
     gathers_entry (λ d v. d) (λ d v. lookup (is_at (digest_cmp d)) entries ≡ Some v) digests_total digests_apart seen d old new d v gathers there
-    (λ j y is at. at) (λ j y z is also. one y z (sym is ∙ also)) (put ∙ ap (insert_entry digest_cmp old d) same)
+    (λ j y is at. at) (λ j y z is also. same_Some y z (sym is ∙ also)) (put ∙ ap (insert_entry digest_cmp old d) same)
 
 pub loop-digest-init : goal.loop-digest-init
 loop-digest-init g c = rw c.new-shared.ensures.empty (gathers_none (λ d v. d) (λ d v. lookup (is_at (digest_cmp d)) c.args.entries.now ≡ Some v) digests_total)

@@ -3,7 +3,7 @@ use Rattle.std.specs.Prelude.{slice_get}
 use Rattle.std.proofs.lemmas.Option.{slice_get_read}
 use borrow.Author.Tests.{ltb-false}
 use Rattle.nw_book.specs.Journal.{Journal}
-use Rattle.nw_book.specs.Settled.{Settlement, AreAllSessions}
+use Rattle.nw_store.specs.Settled.{Settlement, AreAllSessions}
 use Rattle.nw_store.proofs.Ordered.{all_length}
 use Rattle.nw_store.proofs.settlement.Settled.journal.Goals as goal
 

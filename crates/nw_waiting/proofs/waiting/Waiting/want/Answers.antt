@@ -7,7 +7,7 @@ use Rattle.nw_digest.specs.Order.{digest_cmp}
 use Rattle.nw_waiting.specs.Lists.{list_of}
 use Rattle.nw_waiting.proofs.Changes.{added, added_view, kept, kept_view, missing_member}
 use Rattle.nw_waiting.proofs.Members.{rewritten, written}
-use Rattle.nw_model.proofs.Maps.{digests_total}
+use Rattle.nw_digest.proofs.Maps.{digests_total}
 use Rattle.nw_waiting.proofs.Relation.{insert_same, on_err}
 use Rattle.nw_waiting.proofs.waiting.Waiting.want.Goals as goal
 use Rattle.nw_model.specs.Missing.{wanted_cmp}

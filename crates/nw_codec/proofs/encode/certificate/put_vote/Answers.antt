@@ -1,0 +1,18 @@
+use Rattle.std.proofs.Common.{rules, arith, subst}
+use Rattle.std.proofs.lemmas.Grind.{common_steps}
+use Rattle.std.proofs.lemmas.Result.{on_ok_weaker}
+use Rattle.nw_codec.specs.Grammar.{message}
+use Rattle.nw_codec.specs.Typed.{IsSubject}
+use Rattle.nw_codec.proofs.encode.certificate.put_vote.Goals as goal
+
+pub returns-clause-text : goal.returns-clause-text
+unfolding message
+returns-clause-text g c = on_ok_weaker c.put-2.result
+    (λ put start. let all = put _ (c.in_ok-put.ensures.text _ (c.in_ok-put_subject.ensures.text start)) in
+    grind (arith, common_steps))
+    c.put-2.ensures.text
+
+pub returns-clause-typed : goal.returns-clause-typed
+returns-clause-typed g c = on_ok_weaker c.put-2.result
+    (λ put. record { subject = subst IsSubject c.subject.ensures c.in_ok-put_subject.ensures.typed; sealed = record { signer = search rules; signature = record { len = search rules; bytes = c.put-2.ensures.bytes } } })
+    c.put-2.ensures.text

@@ -1,0 +1,15 @@
+use Rattle.std.proofs.Common.{rules, [], ◌∷◌}
+use Rattle.std.proofs.lemmas.Result.{on_ok_weaker}
+use Rattle.nw_codec.specs.Grammar.{message}
+use Rattle.nw_codec.proofs.encode.put_block.Goals as goal
+
+pub returns-clause-text : goal.returns-clause-text
+unfolding message
+returns-clause-text g c = on_ok_weaker c.put-2.result
+    (λ put start. put _ (c.in_ok-put_body.ensures.text (1 ∷ []) (c.in_ok-put.ensures.text [] start)))
+    c.put-2.ensures.text
+
+pub returns-clause-typed : goal.returns-clause-typed
+returns-clause-typed g c = on_ok_weaker c.put-2.result
+    (λ put. (c.in_ok-put_body.ensures.typed, record { len = search rules; bytes = c.put-2.ensures.bytes }))
+    c.put-2.ensures.text

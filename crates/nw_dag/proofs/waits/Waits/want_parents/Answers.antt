@@ -1,9 +1,0 @@
-use Rattle.std.proofs.Common.{◌∙◌}
-use Rattle.nw_dag.proofs.Written.{forgotten}
-use Rattle.nw_dag.proofs.waits.Waits.want_parents.Goals as goal
-
-pub returns-in-Err-clause-unchanged : goal.returns-in-Err-clause-unchanged
-returns-in-Err-clause-unchanged c = (
-  c.forget.ensures.unmet ∙ forgotten c.args.holder c.args.self.now.missing.unmet c.want_each.new.self.missing.unmet c.want_each.ensures.same_unmet c.requires.unmet,
-  c.forget.ensures.lacking ∙ forgotten c.args.holder c.args.self.now.missing.lacking c.want_each.new.self.missing.lacking c.want_each.ensures.same_lacking c.requires.lacking,
-)
