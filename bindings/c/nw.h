@@ -109,7 +109,8 @@ enum {
 	NW_SMALL = 11,
 	/* There is nothing at the index, or there is no such value. */
 	NW_ABSENT = 12,
-	/* The block or certificate breaks a limit of the format, or its parents or signers do not ascend strictly. */
+	/* The new block breaks a limit of the format, its parents do not ascend strictly, or its sizes do not add
+	   up. */
 	NW_OVER_LIMIT = 13,
 	/* The author or signer is not a member of the committee. */
 	NW_NO_MEMBER = 14,
@@ -188,7 +189,7 @@ enum {
 /* The kinds of replies. */
 enum {
 	/* Write: the block is now stored, and it is the first of its round and author. Vote for it once all its
-	   parents are stored and certified (nw_session_look). A block of the garbage round needs no parents. */
+	   parents are stored and certified (nw_session_missing_of). A block of the garbage round needs no parents. */
 	NW_STORED_VOTE = 201,
 	/* Write: the block is now stored, without a vote: another block of its round and author came first, but this
 	   one is certified. */
@@ -782,7 +783,7 @@ static inline const char *nw_code_text(int32_t code)
 	case NW_ABSENT:
 		return "There is nothing at the index, or there is no such value";
 	case NW_OVER_LIMIT:
-		return "The block or certificate breaks a limit of the format, or its parents or signers do not ascend strictly";
+		return "The new block breaks a limit of the format, its parents do not ascend strictly, or its sizes do not add up";
 	case NW_NO_MEMBER:
 		return "The author or signer is not a member of the committee";
 	case NW_OTHER_BLOCK:

@@ -36,10 +36,8 @@ impl Handle {
     #[inline]
     pub(crate) fn opened(open: impl FnOnce(&mut Handle) -> Code) -> Result<Handle, Code> {
         let mut handle = Handle::CLOSED;
-        match open(&mut handle) {
-            Code::DONE => Ok(handle),
-            refused => Err(refused),
-        }
+        open(&mut handle).done()?;
+        Ok(handle)
     }
 
     /// New room for an answer.
@@ -209,8 +207,8 @@ unsafe extern "C" {
     ) -> Code;
     fn nw_block_transactions(
         block: &mut Handle,
-        room: *mut u8,
-        room_len: usize,
+        buffer: *mut u8,
+        buffer_len: usize,
         lengths: *mut u32,
         lengths_len: usize,
         needed: &mut usize,
@@ -218,23 +216,23 @@ unsafe extern "C" {
 }
 
 /// The exports that write bytes into a buffer. `needed` gets the number of bytes.
-macro_rules! rooms {
+macro_rules! buffers {
     ($($export:ident as $name:ident($($argument:ident: $type:ty),+);)+) => {
         // SAFETY: as above. The buffer is a pointer with a length.
         unsafe extern "C" {
             $(fn $export(
-                $($argument: $type,)+ room: *mut u8, room_len: usize, needed: &mut usize,
+                $($argument: $type,)+ buffer: *mut u8, buffer_len: usize, needed: &mut usize,
             ) -> Code;)+
         }
 
         $(pub(crate) fn $name($($argument: $type),+) -> Result<Vec<u8>, Code> {
             // SAFETY: the pointer and the length are those of one buffer, which may be written to.
-            written(|room, len, needed| unsafe { $export($($argument,)+ room, len, needed) })
+            written(|buffer, len, needed| unsafe { $export($($argument,)+ buffer, len, needed) })
         })+
     };
 }
 
-rooms! {
+buffers! {
     nw_block_body as block_body(block: &mut Handle);
     nw_block_message as block_message(block: &mut Handle, signature: &Signature);
     nw_vote_message as vote_message(subject: &Subject, signer: u16, signature: &Signature);
@@ -245,10 +243,10 @@ rooms! {
 /// The bytes that a call writes, at first into a buffer on the stack. If that is too small, the
 /// call is repeated with a buffer of the needed size.
 fn written(mut call: impl FnMut(*mut u8, usize, &mut usize) -> Code) -> Result<Vec<u8>, Code> {
-    let (mut room, mut needed) = ([MaybeUninit::<u8>::uninit(); 4096], 0);
-    match call(room.as_mut_ptr().cast(), room.len(), &mut needed) {
+    let (mut buffer, mut needed) = ([MaybeUninit::<u8>::uninit(); 4096], 0);
+    match call(buffer.as_mut_ptr().cast(), buffer.len(), &mut needed) {
         Code::DONE => {
-            let bytes = room[..needed].as_ptr().cast();
+            let bytes = buffer[..needed].as_ptr().cast();
             // SAFETY: a call that succeeded wrote the first `needed` bytes of the buffer.
             return Ok(unsafe { slice::from_raw_parts(bytes, needed) }.to_vec());
         }
@@ -276,9 +274,9 @@ pub(crate) fn checked_message_size(checked: &mut Handle) -> usize {
 /// All transactions of a block, one after another. `lengths` has a place for the length of each.
 pub(crate) fn block_transactions(block: &mut Handle, lengths: &mut [u32]) -> Result<Vec<u8>, Code> {
     let (places, count) = (lengths.as_mut_ptr(), lengths.len());
-    written(|room, len, needed| {
+    written(|buffer, len, needed| {
         // SAFETY: each pointer has the length of its buffer, which may be written to.
-        unsafe { nw_block_transactions(block, room, len, places, count, needed) }
+        unsafe { nw_block_transactions(block, buffer, len, places, count, needed) }
     })
 }
 
@@ -361,17 +359,17 @@ mod tests {
     use std::sync::atomic::{AtomicBool, Ordering};
     use std::{hint, mem, thread};
 
-    /// Writes 7s into the whole room if it has `size` bytes.
+    /// Writes 7s into the whole buffer if it has `size` bytes.
     fn sevens(size: usize) -> Result<Vec<u8>, Code> {
-        let mut rooms = [4096, size].into_iter();
-        written(|room, len, needed| {
-            assert_eq!(Some(len), rooms.next(), "the size of the room");
+        let mut sizes = [4096, size].into_iter();
+        written(|buffer, len, needed| {
+            assert_eq!(Some(len), sizes.next(), "the size of the buffer");
             *needed = size;
             if len < size {
                 return Code::SMALL;
             }
-            // SAFETY: the room has `len` bytes, and `size` is not above.
-            unsafe { room.write_bytes(7, size) };
+            // SAFETY: the buffer has `len` bytes, and `size` is not above.
+            unsafe { buffer.write_bytes(7, size) };
             Code::DONE
         })
     }

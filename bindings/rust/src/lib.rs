@@ -67,8 +67,9 @@
 //!   of the history.
 //!
 //! The crate has a lock too, at which threads wait for their turns. Nothing of the above rests on
-//! it. The proofs do not cover this crate, std, libc, the compilers or the code of SHA-256. Nor do
-//! they show that signatures cannot be forged, or that no two blocks have the same digest.
+//! it. The proofs do not cover this crate, and do not show that signatures cannot be forged, or that
+//! no two blocks have the same digest. Std, libc, the compilers, the prover, and the toolchain's
+//! SHA-2 and `atomic_table` are trusted.
 //!
 //! # After a crash
 //!

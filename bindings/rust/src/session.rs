@@ -513,10 +513,16 @@ fn block_of(answer: &mut Room, is_last: bool) -> Option<Block> {
     })
 }
 
-/// The listed missing parents.
+/// The listed missing parents. The answer is to a call for those of all blocks.
 fn subjects_of(answer: &mut Handle) -> Vec<Subject> {
+    missing_of(answer).unwrap_or_else(|| unexpected_kind(Reply::Unknown))
+}
+
+/// The listed missing parents of a block, if it is stored.
+fn missing_of(answer: &mut Handle) -> Option<Vec<Subject>> {
     let listed = match Reply::read(answer) {
         Reply::Missing { listed } => listed as usize,
+        Reply::Unknown => return None,
         other => unexpected_kind(other),
     };
     let subject = |index| {
@@ -524,12 +530,7 @@ fn subjects_of(answer: &mut Handle) -> Vec<Subject> {
             ffi::nw_answer_missing(answer, index, out)
         })
     };
-    (0..listed).map(subject).collect()
-}
-
-/// The listed missing parents of a block, if it is stored.
-fn missing_of(answer: &mut Handle) -> Option<Vec<Subject>> {
-    (Reply::read(answer) != Reply::Unknown).then(|| subjects_of(answer))
+    Some((0..listed).map(subject).collect())
 }
 
 fn status_of(answer: &mut Handle) -> Status {

@@ -15,9 +15,9 @@ use std::time::Duration;
 /// The block store of one validator, in memory.
 ///
 /// It holds blocks and certificates under one committee. Threads call it through [`Session`]s, each
-/// through one of its own. Every call is one step under the library's lock, so all calls are
-/// linearizable. [`Session`] says what is proved of them. The step table is in docs/MODEL.md of the
-/// repository.
+/// through one of its own. Every call is one step under the library's lock. The proofs order the
+/// calls of two sessions only by notes ([`Session::note`]). [`Session`] says what else is proved.
+/// The step table is in docs/MODEL.md of the repository.
 ///
 /// A thread waits for its turn at a second lock, which is that of this crate. No proof rests on it.
 ///
@@ -259,8 +259,8 @@ impl Inner {
     ) -> Result<(), StepError> {
         let mut turn = self.turns.take();
         let mut old = Ok(None);
-        while old.is_ok() && self.is_due(&mut turn, content) {
-            old = self.restart(&mut turn, caller, room);
+        if self.is_due(&mut turn, content) {
+            old = self.restart_due(&mut turn, caller, content, room);
         }
         let mut code = turn.call(caller, |session| call(session, room));
         // Without turns, the history can be full before all its events are counted.
@@ -291,6 +291,22 @@ impl Inner {
         self.restart.is_some_and(is_met)
     }
 
+    /// Restarts the history until the call with this content fits.
+    #[cold]
+    fn restart_due(
+        &self,
+        turn: &mut Turn,
+        caller: &mut Caller,
+        content: Content,
+        room: &mut Room,
+    ) -> Result<Option<Old>, Code> {
+        let mut old = None;
+        while self.is_due(turn, content) {
+            old = self.restart(turn, caller, room)?;
+        }
+        Ok(old)
+    }
+
     /// Ends the session's run, and returns what is left of its history. The caller drops it after
     /// the turn: it is often the last owner of that history. If the run has ended already, this
     /// takes the session into the present run instead.
@@ -303,12 +319,12 @@ impl Inner {
     ) -> Result<Option<Old>, Code> {
         let mut last = room.renew()?;
         let code = caller.call(|session| ffi::nw_session_restart(session, &mut last));
-        turn.enter(caller);
         if code == Code::ENDED {
             turn.renew(caller).done()?;
             return Ok(None);
         }
         code.done()?;
+        turn.enter(caller);
         Ok(Some([last, self.spare.take()]))
     }
 }

@@ -91,7 +91,8 @@ impl<S: Scheme> Ticket<S> {
         walk(alloc, &self.view, self.digest)
     }
 
-    /// The same list, with the digest of each block. Each is well formed under the store's committee. The ticket lends both, so it takes no owner of a block.
+    /// The same list, with the digest of each block. Each is well formed under the store's committee. The ticket lends both, so it
+    /// takes no owner of a block.
     ///
     /// `NoMemory`: an allocation failed. A later walk may succeed.
     pub fn walk_lent(&self, alloc: Global) -> Result<Vec<Ancestor<'_>>, NoMemory>

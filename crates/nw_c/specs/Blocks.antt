@@ -1,7 +1,7 @@
 -- Making and reading blocks.
-use Rattle.std.specs.Prelude.{◌≡◌, ℕ, ◌≤◌, List, Some, None, All, length, map, slice_get, take}
+use Rattle.std.specs.Prelude.{◌≡◌, ℕ, ◌<◌, ◌≤◌, List, Some, None, All, length, map, slice_get, take}
 use Rattle.std.specs.List.{flat_map}
-use Rattle.nw_codec.specs.Fits.{Fits}
+use Rattle.nw_codec.specs.Fits.{Fits, body_size}
 use Rattle.nw_codec.specs.Grammar.{body}
 use Rattle.nw_codec.specs.Spelled.{Spells}
 use Rattle.nw_codec.specs.Subject.{block_subject}
@@ -63,15 +63,20 @@ HasTransactions other bytes lengths = ⊥
 abbrev pub NeedMoreThan : ℕ → ℕ → List (List ℕ) → Type 0
 NeedMoreThan bytes places transactions = length (flat_map (λ t. t) transactions) ≤ bytes → length transactions ≤ places → ⊥
 
--- it is a block whose transactions need more room
-abbrev pub HasNoRoom : Content → ℕ → ℕ → Type 0
-HasNoRoom (kind.Block b) bytes places = NeedMoreThan bytes places b.transactions
-HasNoRoom other bytes places = ⊥
+-- it is a block whose transactions have `needed` bytes together, and need more room
+abbrev pub HasNoRoom : Content → ℕ → ℕ → ℕ → Type 0
+HasNoRoom (kind.Block b) bytes places needed = (needed ≡ length (flat_map (λ t. t) b.transactions)) × NeedMoreThan bytes places b.transactions
+HasNoRoom other bytes places needed = ⊥
 
 -- it is a block with this body
 abbrev pub HasBody : Content → List ℕ → Type 0
 HasBody (kind.Block b) text = text ≡ body b
 HasBody other text = ⊥
+
+-- it is a block whose body has `needed` bytes, and there is not so much room
+abbrev pub HasLongBody : Content → ℕ → ℕ → Type 0
+HasLongBody (kind.Block b) room needed = (needed ≡ body_size b) × (room < needed)
+HasLongBody other room needed = ⊥
 
 -- the text is the message of the block with this signature
 abbrev pub HasMessage : Content → CSignature → List ℕ → Type 0

@@ -1,7 +1,8 @@
 -- Making and reading committees.
-use Rattle.std.specs.Prelude.{◌≡◌, ℕ, List, Some, None, length, map, slice_get}
+use Rattle.std.specs.Prelude.{◌≡◌, ℕ, List, Some, length, map, slice_get}
 use Rattle.nw_committee.specs.Committee.{quorum}
 use Rattle.nw_committee.specs.declared.member.Member.{Member}
+use Rattle.nw_model.specs.Checks.{IsMember}
 use Rattle.nw_c.specs.declared.committees.CMember.{CMember}
 use Rattle.nw_c.specs.declared.content.Content.{Content}
 use Rattle.nw_c.specs.declared.content.Content.TheVariants as kind
@@ -37,5 +38,5 @@ HasQuorum other n = ⊥
 
 -- it is a committee without a member of this number
 abbrev pub LacksMember : Content → ℕ → Type 0
-LacksMember (kind.Committee members) number = slice_get members number ≡ None
+LacksMember (kind.Committee members) number = IsMember members number → ⊥
 LacksMember other number = ⊥

@@ -1,9 +1,8 @@
 -- Gathering votes into a certificate.
-use Rattle.std.specs.Prelude.{◌≡◌, ◌↔◌, ℕ, Bool, IsTrue, []}
+use Rattle.std.specs.Prelude.{◌≡◌, ◌↔◌, Bool, IsTrue, []}
 use Rattle.nw_codec.specs.Fits.{signers}
 use Rattle.nw_committee.specs.Committee.{ReachesQuorum}
 use Rattle.nw_sig.specs.Signed.{Meaning}
-use Rattle.nw_model.specs.Checks.{IsMember}
 use Rattle.nw_check.specs.Gathering.{CountsVote, CanCount, IsGatherFault, certificate_of}
 use Rattle.nw_check.specs.declared.fault.GatherFault.{GatherFault}
 use Rattle.nw_check.specs.declared.message.Checked.TheVariants as checked
@@ -34,11 +33,6 @@ abbrev pub IsCertificateOf : Content → Content → Type 0
 IsCertificateOf (kind.Gather g) (kind.Checked (checked.Cert c)) =
     ReachesQuorum g.committee (signers g.seals) × (c ≡ record { certificate = certificate_of g; committee = g.committee })
 IsCertificateOf gather other = ⊥
-
--- it is a committee without a member of this number
-abbrev pub LacksAuthor : Content → ℕ → Type 0
-LacksAuthor (kind.Committee members) author = IsMember members author → ⊥
-LacksAuthor other author = ⊥
 
 -- the counted votes do not reach the quorum
 abbrev pub HasFewVotes : Content → Type 0

@@ -2,10 +2,10 @@
 use Rattle.std.specs.Prelude.{◌≡◌, ℤ, pos, replicate}
 use Rattle.nw_digest.specs.declared.digest.Digest.{Digest}
 use Rattle.nw_codec.specs.Subject.{block_subject, certificate_subject, vote_subject}
-use Rattle.nw_codec.specs.declared.peek.Peek.{Peek}
-use Rattle.nw_codec.specs.declared.peek.Peek.TheVariants as peeks
-use Rattle.nw_codec.specs.declared.error.DecodeError.{DecodeError}
-use Rattle.nw_codec.specs.declared.error.DecodeError.TheVariants as decode
+use Rattle.nw_decode.specs.declared.peek.Peek.{Peek}
+use Rattle.nw_decode.specs.declared.peek.Peek.TheVariants as peeks
+use Rattle.nw_decode.specs.declared.error.DecodeError.{DecodeError}
+use Rattle.nw_decode.specs.declared.error.DecodeError.TheVariants as decode
 use Rattle.nw_check.specs.declared.fault.BlockFault.{BlockFault}
 use Rattle.nw_check.specs.declared.fault.BlockFault.TheVariants as block_fault
 use Rattle.nw_check.specs.declared.fault.CertFault.{CertFault}

@@ -101,7 +101,7 @@ pub extern "C" fn nw_answer_message(
     }
     match answer.lend() {
         Content::Answer(done) => match (done.certificate(), done.reply()) {
-            (Some(certificate), _) => { hand_out_certificate(certificate.get(), buffer, needed) }
+            (Some(certificate), _) => hand_out_certificate(certificate.get(), buffer, needed),
             (None, Reply::Certificate(None)) => ABSENT,
             _ => OTHER_KIND,
         },

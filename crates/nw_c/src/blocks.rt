@@ -1,6 +1,6 @@
 //! Reading blocks: their parts, bodies and messages.
-ghost use Rattle.std.specs.Prelude.{◌≡◌, ◌<◌, pos, take, true, length};
-ghost use Rattle.nw_c.specs.Blocks.{HasBody, HasCounts, HasMessage, HasNoParentAt, HasParentAt, HasSubject};
+ghost use Rattle.std.specs.Prelude.{◌≡◌, pos, take, true, length};
+ghost use Rattle.nw_c.specs.Blocks.{HasBody, HasCounts, HasLongBody, HasMessage, HasNoParentAt, HasParentAt, HasSubject};
 ghost use Rattle.nw_c.specs.Kinds.{IsUnchanged, HoldsBlock};
 ghost use Rattle.nw_c.specs.Plain.{IsTooLong};
 ghost use Rattle.nw_c.specs.declared.codes.TheConstants.{ABSENT, CLOSED, NO_MEMORY, OTHER_KIND, OVER_LIMIT, SMALL};
@@ -107,7 +107,7 @@ pub extern "C" fn nw_block_body(
     ensures other_kind { result ≡ OTHER_KIND → HoldsBlock block.old.value → ⊥ }
     ensures over_limit { result ≡ OVER_LIMIT → ⊥ }
     ensures no_memory { result ≡ NO_MEMORY → ⊥ }
-    ensures small { result ≡ SMALL → length buffer.old < needed.new }
+    ensures small { result ≡ SMALL → HasLongBody block.old.value (length buffer.old) needed.new }
     ensures unchanged { (result ≡ pos 0 → ⊥) → buffer.new ≡ buffer.old }
 {
     if !block.is_open() {

@@ -31,7 +31,7 @@ pub(crate) const BAD_ROUND: i32 = 10;
 pub(crate) const SMALL: i32 = 11;
 /// There is nothing at the index, or there is no such value.
 pub(crate) const ABSENT: i32 = 12;
-/// The block or certificate breaks a limit of the format, or its parents or signers do not ascend strictly.
+/// The new block breaks a limit of the format, its parents do not ascend strictly, or its sizes do not add up.
 pub(crate) const OVER_LIMIT: i32 = 13;
 /// The author or signer is not a member of the committee.
 pub(crate) const NO_MEMBER: i32 = 14;

@@ -1,8 +1,11 @@
 //! The contents of handles.
-ghost use Rattle.std.specs.Prelude.{◌≡◌, false};
-ghost use Rattle.nw_c.specs.Kinds.{HoldsRoom};
+ghost use Rattle.std.specs.Prelude.{◌≡◌, ◌⊎◌, pos, true, false};
+ghost use Rattle.nw_c.specs.Kinds.{HoldsRoom, IsUnchanged};
+ghost use Rattle.nw_c.specs.declared.codes.TheConstants.{CLOSED, OTHER_KIND};
 
+use crate::codes::{CLOSED, DONE, OTHER_KIND};
 use crate::given::Given;
+use crate::handle::Handle;
 use crate::hashed::HashedBlock;
 use nw_book::{Done, Ticket};
 use nw_check::Checked;
@@ -42,11 +45,30 @@ pub enum Content {
 }
 
 /// Whether an answer may replace this content: it is room, an answer, a ticket or a history.
-pub(crate) fn is_room(content: &Content) -> bool
+fn is_room(content: &Content) -> bool
     ensures { result ≡ false → HoldsRoom content.now → ⊥ }
 {
     matches!(
         content,
         Content::Room | Content::Answer(_) | Content::Ticket(_) | Content::History(_)
     )
+}
+
+/// Tests the handles of a call whose answer replaces the content of `answer`: `CLOSED` if one of them is closed, `OTHER_KIND` if an answer may
+/// not replace this content, and otherwise `DONE`.
+pub(crate) fn code_of_room(other: &mut Handle, answer: &mut Handle) -> i32
+    ensures code { (result ≡ CLOSED) ⊎ (result ≡ OTHER_KIND) ⊎ (result ≡ pos 0) }
+    ensures same { other.new ≡ other.old }
+    ensures answer { IsUnchanged answer.old answer.new }
+    ensures are_open { result ≡ pos 0 → (other.new.held ≡ true) × (answer.new.held ≡ true) }
+    ensures closed { result ≡ CLOSED → other.old.held ≡ true → answer.old.held ≡ true → ⊥ }
+    ensures other_kind { result ≡ OTHER_KIND → HoldsRoom answer.old.value → ⊥ }
+{
+    if !other.is_open() || !answer.is_open() {
+        return CLOSED;
+    }
+    if !is_room(answer.lend()) {
+        return OTHER_KIND;
+    }
+    DONE
 }

@@ -3,7 +3,8 @@ ghost use Rattle.std.specs.Prelude.{◌≡◌, ◌^◌, ◌≤◌, pos, true};
 ghost use Rattle.nw_ed25519.specs.Accepts.{accepts};
 ghost use Rattle.nw_check.specs.declared.fault.GatherFault.{GatherFault as Fault};
 ghost use Rattle.nw_c.specs.Codes.{gather_code};
-ghost use Rattle.nw_c.specs.Gathers.{HasFewVotes, IsCertificateOf, IsCountedIn, IsNewGather, IsNotCounted, LacksAuthor};
+ghost use Rattle.nw_c.specs.Committees.{LacksMember};
+ghost use Rattle.nw_c.specs.Gathers.{HasFewVotes, IsCertificateOf, IsCountedIn, IsNewGather, IsNotCounted};
 ghost use Rattle.nw_c.specs.Kinds.{IsUnchanged, HoldsCommittee, HoldsGather, HoldsVote};
 ghost use Rattle.nw_c.specs.declared.codes.TheConstants.{BAD_ROUND, CLOSED, FEW_VOTES, NO_MEMBER, OPEN, OTHER_KIND};
 
@@ -34,7 +35,7 @@ pub extern "C" fn nw_gather_new(
     ensures closed { result ≡ CLOSED → committee.old.held ≡ true → ⊥ }
     ensures other_kind { result ≡ OTHER_KIND → HoldsCommittee committee.old.value → ⊥ }
     ensures bad_round { result ≡ BAD_ROUND → 2 ^ 48 ≤ subject.now.round }
-    ensures no_member { result ≡ NO_MEMBER → LacksAuthor committee.old.value subject.now.author }
+    ensures no_member { result ≡ NO_MEMBER → LacksMember committee.old.value subject.now.author }
 {
     if !committee.is_open() {
         return CLOSED;

@@ -5,7 +5,8 @@ ghost use Rattle.nw_c.specs.Plain.{subject_of};
 
 use crate::plain::CSubject;
 use nw_check::{BlockFault, CertFault, Checked};
-use nw_codec::{DecodeError, Subject};
+use nw_codec::Subject;
+use nw_decode::DecodeError;
 use nw_digest::{Digest, Round};
 use nw_ed25519::Ed25519;
 

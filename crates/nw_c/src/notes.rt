@@ -10,7 +10,7 @@ ghost use Rattle.nw_c.specs.Stores.{refusal_code};
 ghost use Rattle.nw_c.specs.declared.codes.TheConstants.{CLOSED, OTHER_HISTORY, OTHER_KIND};
 
 use crate::codes::{CLOSED, DONE, OTHER_HISTORY, OTHER_KIND};
-use crate::content::{Content, is_room};
+use crate::content::{Content, code_of_room};
 use crate::events::front_of;
 use crate::handle::{AnswerHandle, SessionHandle};
 use crate::stores::code_of_refusal;
@@ -29,11 +29,9 @@ pub extern "C" fn nw_session_note(session: &mut SessionHandle, answer: &mut Answ
     ensures closed { result ≡ CLOSED → session.old.held ≡ true → answer.old.held ≡ true → ⊥ }
     ensures other_kind { result ≡ OTHER_KIND → HoldsSession session.old.value → HoldsRoom answer.old.value → ⊥ }
 {
-    if !session.is_open() || !answer.is_open() {
-        return CLOSED;
-    }
-    if !is_room(answer.lend()) {
-        return OTHER_KIND;
+    let code = code_of_room(session, answer);
+    if code != DONE {
+        return code;
     }
     let Content::Session(held) = session.lend() else {
         return OTHER_KIND;

@@ -1,15 +1,16 @@
 //! What the front of a text says.
 ghost use Rattle.std.specs.Prelude.{◌≡◌, ◌↔◌, pos};
 ghost use Rattle.nw_codec.specs.declared.message.Message.{Message};
-ghost use Rattle.nw_codec.specs.declared.peek.Peek.{Peek};
-ghost use Rattle.nw_codec.specs.Peek.{peek_of, BeginsWith, HasFront};
+ghost use Rattle.nw_decode.specs.declared.peek.Peek.{Peek};
+ghost use Rattle.nw_decode.specs.Peek.{peek_of, BeginsWith, HasFront};
 ghost use Rattle.nw_codec.specs.Spelled.{Spells};
 ghost use Rattle.nw_c.specs.Messages.{IsFrontOf};
 ghost use Rattle.nw_c.specs.declared.codes.TheConstants.{ABSENT};
 
 use crate::codes::{ABSENT, DONE};
 use crate::messages::{BLOCK, CERTIFICATE, CMessage, VOTE, about};
-use nw_codec::{Peek, Subject, peek_message};
+use nw_codec::Subject;
+use nw_decode::{Peek, peek_message};
 use nw_digest::Digest;
 
 /// Writes what the front of the text says: the kind of message, its round and author, the digest of a certificate or vote, and the signer

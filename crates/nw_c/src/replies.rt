@@ -12,7 +12,7 @@ use crate::plain::{CTagged, named, numbered, plain};
 use nw_model::{CausalReply, CertifyReply, CollectReply, Reply, WriteReply};
 
 /// Write: the block is now stored, and it is the first of its round and author. Vote for it once all its parents are
-/// stored and certified (`nw_session_look`). A block of the garbage round needs no parents.
+/// stored and certified (`nw_session_missing_of`). A block of the garbage round needs no parents.
 pub(crate) const STORED_VOTE: i32 = 201;
 /// Write: the block is now stored, without a vote: another block of its round and author came first, but this one is certified.
 pub(crate) const STORED: i32 = 202;

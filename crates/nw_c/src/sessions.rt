@@ -9,7 +9,7 @@ ghost use Rattle.nw_c.specs.Stores.{refusal_code};
 ghost use Rattle.nw_c.specs.declared.codes.TheConstants.{BAD_ROUND, CLOSED, OTHER_KIND};
 
 use crate::codes::{CLOSED, DONE, OTHER_KIND};
-use crate::content::{Content, is_room};
+use crate::content::{Content, code_of_room};
 use crate::handle::{AnswerHandle, CheckedHandle, Handle, SessionHandle};
 use crate::stores::code_of_refusal;
 use nw_book::Command;
@@ -63,11 +63,9 @@ pub(crate) fn call(
     ensures other_kind { result ≡ OTHER_KIND → HoldsSession session.old.value → HoldsRoom answer.old.value → ⊥ }
     ensures not_bad_round { result ≡ BAD_ROUND → ⊥ }
 {
-    if !session.is_open() || !answer.is_open() {
-        return CLOSED;
-    }
-    if !is_room(answer.lend()) {
-        return OTHER_KIND;
+    let code = code_of_room(session, answer);
+    if code != DONE {
+        return code;
     }
     match session.lend() {
         Content::Session(held) => match held.call(alloc, command) {

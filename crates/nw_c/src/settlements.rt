@@ -6,7 +6,7 @@ ghost use Rattle.nw_c.specs.Stores.{IsEmptySettlement, IsGiven, IsSettled, kept_
 ghost use Rattle.nw_c.specs.declared.codes.TheConstants.{ABSENT, CLOSED, OPEN, OTHER_KIND};
 
 use crate::codes::{ABSENT, CLOSED, DONE, NO_MEMORY, OPEN, OTHER_KIND, UNSETTLED};
-use crate::content::{Content, is_room};
+use crate::content::{Content, code_of_room};
 use crate::given::Given;
 use crate::handle::{AnswerHandle, SessionHandle, SettlementHandle, nw_free, open, put, room};
 use crate::stores::code_of_refusal;
@@ -81,11 +81,9 @@ pub extern "C" fn nw_settle(settlement: &mut SettlementHandle, answer: &mut Answ
     ensures closed { result ≡ CLOSED → settlement.old.held ≡ true → answer.old.held ≡ true → ⊥ }
     ensures other_kind { result ≡ OTHER_KIND → HoldsSettlement settlement.old.value → HoldsRoom answer.old.value → ⊥ }
 {
-    if !settlement.is_open() || !answer.is_open() {
-        return CLOSED;
-    }
-    if !is_room(answer.lend()) {
-        return OTHER_KIND;
+    let code = code_of_room(settlement, answer);
+    if code != DONE {
+        return code;
     }
     let Content::Settlement(given) = settlement.lend() else {
         return OTHER_KIND;

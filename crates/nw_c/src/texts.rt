@@ -1,6 +1,6 @@
 //! Writing texts to the caller's buffer.
 ghost use Rattle.std.specs.Prelude.{◌≡◌, ◌<◌, pos, take, length};
-ghost use Rattle.nw_codec.specs.Fits.{CertificateFits, Fits};
+ghost use Rattle.nw_codec.specs.Fits.{CertificateFits, Fits, body_size};
 ghost use Rattle.nw_codec.specs.Grammar.{body};
 ghost use Rattle.nw_codec.specs.Spelled.{Spells};
 ghost use Rattle.nw_codec.specs.declared.message.Message.TheVariants as Message;
@@ -14,7 +14,8 @@ use nw_codec::{Block, Certificate, Signature, Vote};
 pub(crate) fn hand_out_body(block: &Block, buffer: &mut [u8], needed: &mut usize) -> i32
     requires { Fits block.now }
     ensures written { result ≡ pos 0 → take needed.new buffer.new ≡ body block.now }
-    ensures small { (result ≡ pos 0 → ⊥) → (result ≡ SMALL) × (length buffer.old < needed.new) }
+    ensures small { (result ≡ pos 0 → ⊥)
+        → (result ≡ SMALL) × (needed.new ≡ body_size block.now) × (length buffer.old < needed.new) }
     ensures unchanged { (result ≡ pos 0 → ⊥) → buffer.new ≡ buffer.old }
 {
     *needed = block.body_size();

@@ -1,10 +1,8 @@
 -- Broken rules, and the faults of blocks and certificates.
-use Rattle.std.proofs.Common.{◌≡◌, ℕ, nat_eq, Bool, true, false, ◌+◌, ◌<◌, Option, Some, None, ap, List, ◌∷◌, ◌++◌, length, take, drop, get_or, refl, subst, arith}
+use Rattle.std.proofs.Common.{◌≡◌, ℕ, Bool, true, false, ◌+◌, ◌<◌, Option, Some, None, List, ◌∷◌, ◌++◌, length, take, drop, get_or, refl, subst, arith}
 use Rattle.std.specs.Prelude.{Contains, MatchOption, is_some, not}
-use Rattle.std.specs.Cmp.Lexicographic.{pointwise, bytes_decides}
 use Rattle.std.specs.List.{All}
 use Rattle.std.proofs.lemmas.List.Elements.{All-contains, Contains-append_right}
-use Rattle.nw_digest.specs.declared.digest.Digest.{Digest}
 use Rattle.nw_codec.specs.declared.block.Block.{Block}
 use Rattle.nw_codec.specs.declared.certificate.Signature.{Signature}
 use Rattle.nw_codec.specs.declared.certificate.Seal.{Seal}
@@ -69,9 +67,3 @@ module _ (accepts : Meaning) (members : List Member) (c : Certificate) where
   none-valid None false h e = absurd cc
   none-valid (Some f) true h e = absurd cc
   none-valid (Some f) false h e = (λ t. absurd cc, λ v. absurd (valid-keeps_rules f v h))
-
-pub same_digest : (a b : Digest) → pointwise nat_eq a.0 b.0 ≡ true → a ≡ b
-same_digest a b h = let digest : List ℕ → Digest = λ bytes. record { 0 = bytes } in ap digest ((bytes_decides a.0 b.0).0 h)
-
-pub other_digest : (a b : Digest) → pointwise nat_eq a.0 b.0 ≡ false → a ≡ b → ⊥
-other_digest a b h e = let so : pointwise nat_eq a.0 b.0 ≡ true = (bytes_decides a.0 b.0).1 (ap (λ (d : Digest). d.0) e) in cc

@@ -3,7 +3,7 @@ use Rattle.std.proofs.Common.{◌≡◌, ◌∙◌, ℕ, ◌+◌, ◌<◌, ◌�
 use Rattle.std.specs.List.{All}
 use Rattle.std.proofs.lemmas.List.{take-append-drop}
 use Rattle.std.proofs.lemmas.List.Elements.{All-more}
-use Rattle.nw_committee.proofs.Listed.{number_at, number-within, whole_numbers}
+use Rattle.nw_committee.proofs.Listed.{number_at, number-within, whole_front}
 
 module _ {X : Type 0} (f : X → ℕ) (xs : List X) (i : ℕ) (x : X) (h : i < length xs) (is : x ≡ get_or xs i x) where
   pub all_numbers-more : (P : ℕ → Type 0) → All P (take i (map f xs)) → P (f x) → All P (take (i + 1) (map f xs))
@@ -14,7 +14,7 @@ module _ {X : Type 0} (f : X → ℕ) (xs : List X) (i : ℕ) (x : X) (h : i < l
 
 -- if a place is at or past the end, a property of all elements before it is a property of all elements
 pub all_front : (P : ℕ → Type 0) {X : Type 0} (f : X → ℕ) (xs : List X) (i : ℕ) → length xs ≤ i → All P (take i (map f xs)) → All P (map f xs)
-all_front P f xs i high all = subst (All P) (whole_numbers f xs i high) all
+all_front P f xs i high all = subst (All P) (whole_front f xs i high) all
 
 -- a list is the elements before a place, the element at the place, and the elements after it
 pub split_at : {X : Type 0} (xs : List X) (i : ℕ) (d : X) → i < length xs → xs ≡ take i xs ++ get_or xs i d ∷ drop (i + 1) xs

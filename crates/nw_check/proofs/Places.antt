@@ -7,7 +7,7 @@ use Rattle.std.proofs.lemmas.Bool.{cases_lt}
 use Rattle.std.proofs.lemmas.List.{take_all, drop_all, get_or-take, get_or-drop, get_or_default, length-take, length-drop}
 use Rattle.std.proofs.lemmas.List.Elements.{recursion_from_All, All-same, All-nil}
 use Rattle.std.proofs.lemmas.List.Kept.{AllPairs-from_increasing}
-use Rattle.nw_codec.proofs.Ascending.{IsAfter, Ascends, ascends, increasing}
+use Rattle.nw_decode.proofs.Ascending.{IsAfter, Ascends, ascends, increasing}
 use Rattle.nw_check.specs.Gathering.{IsPlace}
 
 -- ---- how many numbers there are

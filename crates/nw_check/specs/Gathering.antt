@@ -11,8 +11,7 @@ use Rattle.nw_codec.specs.declared.vote.Vote.{Vote}
 use Rattle.nw_committee.specs.Committee.{IsCommittee, ReachesQuorum}
 use Rattle.nw_committee.specs.declared.member.Member.{Member}
 use Rattle.nw_sig.specs.Signed.{Meaning, text_of_vote}
-use Rattle.nw_model.specs.Checks.{IsMember, IsSealOf}
-use Rattle.nw_check.specs.Seals.{IsSealFor}
+use Rattle.nw_model.specs.Checks.{IsMember, IsSealFor, IsSealOf}
 use Rattle.nw_check.specs.declared.fault.GatherFault.{GatherFault}
 use Rattle.nw_check.specs.declared.fault.GatherFault.TheVariants as fault
 use Rattle.nw_check.specs.declared.fault.Counted.{Counted}

@@ -1,12 +1,12 @@
 -- The result of checking a text.
 use Rattle.std.specs.Prelude.{◌≡◌, ◌≢◌, ℕ, List}
-use Rattle.nw_codec.specs.Faults.{IsFirstFault}
+use Rattle.nw_decode.specs.Faults.{IsFirstFault}
 use Rattle.nw_codec.specs.Spelled.{Spells}
 use Rattle.nw_codec.specs.declared.block.Block.{Block}
 use Rattle.nw_codec.specs.declared.certificate.Signature.{Signature}
 use Rattle.nw_codec.specs.declared.certificate.Certificate.{Certificate}
 use Rattle.nw_codec.specs.declared.message.Message.TheVariants as messages
-use Rattle.nw_codec.specs.declared.error.DecodeError.TheVariants as decode_error
+use Rattle.nw_decode.specs.declared.error.DecodeError.TheVariants as decode_error
 use Rattle.nw_committee.specs.declared.member.Member.{Member}
 use Rattle.nw_sig.specs.Signed.{Meaning}
 use Rattle.nw_model.specs.Checks.{IsWellFormedWith, IsValid}

@@ -7,8 +7,9 @@ ghost use Rattle.nw_check.specs.Message.{IsChecked};
 use crate::{
     BlockFault, CertFault, CheckedBlock, CheckedCert, Verifier, check_block_by, check_cert_by,
 };
-use nw_codec::{Block, Certificate, DecodeError, Message, Signature, Vote, decode_message};
+use nw_codec::{Block, Certificate, Message, Signature, Vote};
 use nw_committee::Committee;
+use nw_decode::{DecodeError, decode_message};
 use nw_digest::{NoMemory, Shared};
 use nw_sig::Scheme;
 use std::alloc::Global;

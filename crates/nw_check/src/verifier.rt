@@ -1,12 +1,13 @@
 //! Who verifies the signatures of a committee's members.
 ghost use Rattle.std.specs.Prelude.{◌↔◌, List, IsTrue, MatchOption, All};
-ghost use Rattle.nw_codec.specs.Typed.{AreBytes, IsSignature};
+ghost use Rattle.nw_codec.specs.Typed.{IsSignature};
 ghost use Rattle.nw_committee.specs.declared.member.Member.{Member};
 ghost use Rattle.nw_model.specs.Checks.{IsSignedBy, IsSealOf};
 ghost use Rattle.nw_check.specs.Seals.{IsFirstBad};
 
 use nw_codec::{Certificate, Signature};
 use nw_committee::Committee;
+use nw_digest::note_bytes;
 use nw_sig::{Scheme, text_of_vote};
 
 /// A value that verifies the signatures of a committee's members by the scheme `S`. A committee itself does, by `Scheme::verify`. A value
@@ -54,8 +55,3 @@ pub fn note_size(signature: &Signature)
 {
     note_bytes(&signature.0);
 }
-
-/// Tells the prover that the items of a byte slice are bytes. Definitions see them as numbers.
-fn note_bytes(bytes: &[u8])
-    ensures { AreBytes bytes.now }
-{}

@@ -1,10 +1,12 @@
 -- Lists that are cut at known lengths, and numbers as bytes.
-use Rattle.std.proofs.Common.{◌≡◌, ℕ, zero, suc, ◌^◌, ◌/◌, ◌%◌, ◌<◌, List, [], ◌∷◌, ◌++◌, length, get_or, take, drop, refl, sym, ap, ◌∙◌, arith, inl, inr}
+use Rattle.std.proofs.Common.{◌≡◌, ℕ, zero, suc, ◌^◌, ◌/◌, ◌%◌, ◌<◌, ◌≤◌, List, [], ◌∷◌, ◌++◌, length, get_or, take, drop, refl, sym, ap, subst, ◌∙◌, arith}
 use Rattle.std.specs.Int.{w16, w32, w64, to_be_bytes, from_be_bytes}
-use Rattle.std.proofs.lemmas.Bool.{cases_lt}
-use Rattle.std.proofs.lemmas.List.{get_or_past}
+use Rattle.std.proofs.lemmas.Grind.{common_steps}
+use Rattle.std.proofs.lemmas.List.{take_at, drop_at}
+use Rattle.std.proofs.lemmas.List.Elements.{All-take, All-drop}
 use Rattle.std.proofs.lemmas.Nat.{be_bytes_2, be_bytes_4, be_bytes_8, from_be_bytes-to_be_bytes_2, from_be_bytes-to_be_bytes_4, from_be_bytes-to_be_bytes_8}
-use Rattle.nw_codec.specs.Typed.{AreBytes}
+use Rattle.nw_digest.specs.Bytes.{AreBytes}
+use Rattle.nw_digest.proofs.Bytes.{byte_below}
 use Rattle.nw_codec.specs.Grammar.{round_bytes}
 
 pub first_is : (a b : ℕ) (x y : List ℕ) → a ∷ x ≡ b ∷ y → a ≡ b
@@ -21,21 +23,15 @@ same_start (c ∷ a) (d ∷ b) x y l e =
     let both = same_start a b x y (omega (arith, l)) tails in
     (cc (heads, both.0), both.1)
 
-take_its_length : (n : ℕ) (xs : List ℕ) → take (length (take n xs)) xs ≡ take n xs
-take_its_length zero xs = refl
-take_its_length (suc n) [] = refl
-take_its_length (suc n) (x ∷ xs) = ap (λ (t : List ℕ). x ∷ t) (take_its_length n xs)
+front_length : (n : ℕ) (xs : List ℕ) → n ≤ length xs → length (take n xs) ≡ n
+front_length n xs low = grind (arith, common_steps)
 
--- a front with this text is the front of the text's length
-pub take_length : (n size : ℕ) (xs text : List ℕ) → take n xs ≡ text → length text ≡ size → take size xs ≡ text
-take_length n size xs text front e = ap (λ (k : ℕ). take k xs) (sym e ∙ sym (ap length front)) ∙ take_its_length n xs ∙ front
-
-pub byte_below : (bytes : List ℕ) → AreBytes bytes → (i : ℕ) → get_or bytes i 0 < 256
-byte_below bytes h i =
-    elim (cases_lt i (length bytes)) [
-      | inl lt ↦ h i 0 lt
-      | inr le ↦ let past = get_or_past bytes i 0 le in rw past (omega arith)
-    ]
+-- a list whose first n items are this text, and that is as before behind them
+pub filled_front : (n size : ℕ) (now before text : List ℕ) → n ≤ length now → (take n now ≡ text) × (drop n now ≡ drop n before) → length text ≡ size
+    → (take size now ≡ text) × (drop size now ≡ drop size before)
+filled_front n size now before text low written e =
+    let filled : n ≡ size = sym (front_length n now low) ∙ ap length written.0 ∙ e in
+    subst (λ (k : ℕ). (take k now ≡ text) × (drop k now ≡ drop k before)) filled written
 
 -- numbers of 16 bits
 
@@ -92,3 +88,11 @@ again48 n lt = ap (from_be_bytes w64) (sym (high_bytes n lt)) ∙ from_be_bytes-
 
 pub same48 : (m n : ℕ) → m < 2 ^ 48 → n < 2 ^ 48 → round_bytes m ≡ round_bytes n → m ≡ n
 same48 m n low high e = sym (again48 m low) ∙ ap round_of e ∙ again48 n high
+
+-- both parts of a text of bytes are texts of bytes
+pub bytes_of : (front back text : List ℕ) → text ≡ front ++ back → AreBytes text → AreBytes front × AreBytes back
+bytes_of front back text cut h =
+    let whole : AreBytes (front ++ back) = subst AreBytes cut h in
+    let first : AreBytes (take (length front) (front ++ back)) = All-take (λ b. b < 256) (length front) (front ++ back) whole in
+    let second : AreBytes (drop (length front) (front ++ back)) = All-drop (λ b. b < 256) (length front) (front ++ back) whole in
+    (subst AreBytes (take_at front back (length front) refl) first, subst AreBytes (drop_at front back (length front) refl) second)

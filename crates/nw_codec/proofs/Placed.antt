@@ -1,6 +1,7 @@
 -- Texts that are copied into an array piece by piece.
-use Rattle.std.proofs.Common.{◌≡◌, ℕ, List, [], ◌++◌, length, drop, arith, append-nil}
+use Rattle.std.proofs.Common.{◌≡◌, ℕ, ◌+◌, List, [], ◌++◌, length, drop, sym, ap, ◌∙◌, arith, append-nil}
 use Rattle.std.proofs.lemmas.Grind.{common_steps}
+use Rattle.std.proofs.lemmas.List.{drop-drop}
 use borrow.Rule.Slice.PartMut.{put_mid}
 
 -- copying a piece at index n leaves the first n bytes, then the piece, then the rest
@@ -16,3 +17,7 @@ put_last n k front back piece a b en ek ea eb =
     let e = put_next n k front back piece en in
     let d = drop_whole k back ek in
     rw (e, d, ea, eb) (append-nil (a ++ b))
+
+-- two lists that are the same from one place on are so from each later one
+pub same_behind : (n k : ℕ) (xs ys : List ℕ) → drop n xs ≡ drop n ys → drop (n + k) xs ≡ drop (n + k) ys
+same_behind n k xs ys e = sym (drop-drop k n xs) ∙ ap (drop k) e ∙ drop-drop k n ys

@@ -5,7 +5,4 @@ pub mod Limits
 pub mod Subject
 pub mod Same
 pub mod Typed
-pub mod Faults
 pub mod Spelled
-pub mod Parts
-pub mod Peek

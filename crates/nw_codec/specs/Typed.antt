@@ -1,5 +1,6 @@
 -- The ranges of the program's types. In definitions, numbers and lists have no bounds. A value of the program is in the range of its type.
-use Rattle.std.specs.Prelude.{◌≡◌, ℕ, ◌<◌, ◌^◌, List, length, All}
+use Rattle.std.specs.Prelude.{◌≡◌, ◌<◌, ◌^◌, length, All}
+pub use Rattle.nw_digest.specs.Bytes.{AreBytes}
 use Rattle.nw_codec.specs.declared.block.Ref.{Ref}
 use Rattle.nw_codec.specs.declared.block.Block.{Block}
 use Rattle.nw_codec.specs.declared.subject.Subject.{Subject}
@@ -11,10 +12,6 @@ use Rattle.nw_codec.specs.declared.message.Message.{Message}
 use Rattle.nw_codec.specs.declared.message.Message.TheVariants as messages
 use Rattle.nw_codec.specs.Grammar.{seal}
 use Rattle.nw_codec.specs.Subject.{certificate_subject, vote_subject}
-
--- each number is a byte
-abbrev pub AreBytes : List ℕ → Type 0
-AreBytes bytes = All (λ b. b < 256) bytes
 
 -- a reference of the program
 pub record IsRef (r : Ref) : Type 0 where

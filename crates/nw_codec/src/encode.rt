@@ -1,6 +1,6 @@
 //! Encodes bodies and messages.
 ghost use Rattle.std.specs.Prelude.{◌≡◌, ◌↔◌, ◌++◌, ◌<◌, ◌≤◌, ◌+◌, ◌*◌, ℕ, []};
-ghost use Rattle.std.specs.Prelude.{IfOk, OnOk, IsErrOf, All, List, length, take};
+ghost use Rattle.std.specs.Prelude.{IfOk, OnOk, IsErrOf, All, List, length, take, drop};
 ghost use Rattle.std.specs.List.{flat_map};
 ghost use Rattle.std.specs.Int.{to_be_bytes};
 ghost use Rattle.sha2.specs.Sha256.{sha256};
@@ -21,8 +21,8 @@ use std::alloc::Global;
 
 fn put_parents<S: Sink>(sink: &mut S, parents: &[Ref]) -> Result<(), S::Refusal>
     requires { 34 * length parents.now ≤ S.room sink.old }
-    ensures text { OnOk result ((text : List ℕ) → S.holds sink.old text
-        → S.holds sink.new (text ++ flat_map parent_bytes parents.now)) }
+    ensures text { OnOk result ((before text : List ℕ) → S.holds sink.old before text
+        → S.holds sink.new before (text ++ flat_map parent_bytes parents.now)) }
     ensures room { OnOk result (S.room sink.old ≤ S.room sink.new + 34 * length parents.now) }
     ensures place { S.place sink.new ≡ S.place sink.old }
     ensures typed { OnOk result (All IsRef parents.now) }
@@ -40,7 +40,7 @@ fn put_body<S: Sink>(sink: &mut S, block: &Block) -> Result<(), S::Refusal>
     requires fits { Fits block.now }
     requires room { body_size block.now ≤ S.room sink.old }
     ensures text { OnOk result
-        ((text : List ℕ) → S.holds sink.old text → S.holds sink.new (text ++ body block.now)) }
+        ((before text : List ℕ) → S.holds sink.old before text → S.holds sink.new before (text ++ body block.now)) }
     ensures room { OnOk result (S.room sink.old ≤ S.room sink.new + body_size block.now) }
     ensures place { S.place sink.new ≡ S.place sink.old }
     ensures typed { OnOk result (IsBlock block.now) }
@@ -59,8 +59,8 @@ fn put_body<S: Sink>(sink: &mut S, block: &Block) -> Result<(), S::Refusal>
 fn put_block<S: Sink>(sink: &mut S, block: &Block, signature: &Signature) -> Result<(), S::Refusal>
     requires fits { Fits block.now }
     requires room { block_size block.now ≤ S.room sink.old }
-    ensures text { OnOk result (S.holds sink.old []
-        → S.holds sink.new (message (Message.Block block.now signature.now))) }
+    ensures text { OnOk result ((before : List ℕ) → S.holds sink.old before []
+        → S.holds sink.new before (message (Message.Block block.now signature.now))) }
     ensures place { S.place sink.new ≡ S.place sink.old }
     ensures typed { OnOk result (IsMessage (Message.Block block.now signature.now)) }
 {
@@ -104,23 +104,25 @@ impl Block {
         Ok(text)
     }
 
-    /// Writes its body to the front of the buffer. The block must fit (`Block::fits`), and the buffer must have at least
-    /// `Block::body_size` bytes. It makes no allocation.
+    /// Writes its body to the front of the buffer, and leaves the rest as it was. The block must fit (`Block::fits`), and the
+    /// buffer must have at least `Block::body_size` bytes. It makes no allocation.
     pub fn write_body(&self, buffer: &mut [u8])
         requires fits { Fits self.now }
         requires room { body_size self.now ≤ length buffer.old }
-        ensures { take (body_size self.now) buffer.new ≡ body self.now }
+        ensures text { take (body_size self.now) buffer.new ≡ body self.now }
+        ensures rest { drop (body_size self.now) buffer.new ≡ drop (body_size self.now) buffer.old }
     {
         let mut front = Front { buffer, filled: 0 };
         let Ok(()) = put_body(&mut front, self);
     }
 
-    /// Writes the text of its message, with this signature, to the front of the buffer. The block must fit (`Block::fits`), and
-    /// the buffer must have at least `Block::message_size` bytes. It makes no allocation.
+    /// Writes the text of its message, with this signature, to the front of the buffer, and leaves the rest as it was. The block
+    /// must fit (`Block::fits`), and the buffer must have at least `Block::message_size` bytes. It makes no allocation.
     pub fn write_message(&self, signature: &Signature, buffer: &mut [u8])
         requires fits { Fits self.now }
         requires room { block_size self.now ≤ length buffer.old }
-        ensures { Spells (take (block_size self.now) buffer.new) (Message.Block self.now signature.now) }
+        ensures text { Spells (take (block_size self.now) buffer.new) (Message.Block self.now signature.now) }
+        ensures rest { drop (block_size self.now) buffer.new ≡ drop (block_size self.now) buffer.old }
     {
         let mut front = Front { buffer, filled: 0 };
         let Ok(()) = put_block(&mut front, self, signature);

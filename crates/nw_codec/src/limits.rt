@@ -12,11 +12,11 @@ pub const VERSION: u8 = 1;
 /// The size of a signature in bytes.
 pub(crate) const SIGNATURE_BYTES: usize = 64;
 /// The size of a subject in bytes: a digest, a round and an author.
-pub(crate) const SUBJECT_BYTES: usize = 40;
+pub const SUBJECT_BYTES: usize = 40;
 /// The size of a parent in bytes: its author and its digest.
-pub(crate) const PARENT_BYTES: usize = 34;
+pub const PARENT_BYTES: usize = 34;
 /// The size of a seal in bytes: its signer and its signature.
-pub(crate) const SEAL_BYTES: usize = 66;
+pub const SEAL_BYTES: usize = 66;
 
 /// The greatest number of parents of a block.
 pub const MAX_PARENTS: usize = 100;

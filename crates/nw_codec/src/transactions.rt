@@ -8,7 +8,6 @@ ghost use Rattle.nw_codec.specs.Fits.{transactions_size};
 ghost use Rattle.nw_codec.specs.Limits.{longest_transaction};
 
 use crate::EncodeError;
-use crate::decode::front;
 use crate::limits::MAX_TRANSACTION;
 use nw_digest::NoMemory;
 use std::alloc::Global;
@@ -91,7 +90,7 @@ impl Transactions {
         self.text.as_slice()
     }
 
-    /// The size of their encoding in a body: each takes its bytes, and 4 for its length.
+    /// The size of their encoding in a body, in bytes: each takes its own and 4 for its length.
     pub fn size(&self) -> usize
         ensures size { result ≡ transactions_size self.now }
         ensures low { result < 2 ^ 63 }
@@ -100,11 +99,7 @@ impl Transactions {
     }
 
     /// The `count` transactions that the text encodes. Fails with `NoMemory` if the allocation fails.
-    pub(crate) fn of_text(
-        alloc: Global,
-        count: usize,
-        text: &[u8],
-    ) -> Result<Transactions, NoMemory>
+    pub fn of_text(alloc: Global, count: usize, text: &[u8]) -> Result<Transactions, NoMemory>
         requires { ArePacked count text.now }
         ensures { IfOk result (λ transactions. transactions ≡ cut count text.now) }
     {
@@ -131,13 +126,13 @@ fn append(text: &mut Vec<u8>, transaction: &[u8]) -> Result<(), NoMemory>
 }
 
 /// The transaction at the front of the text, and the rest.
-pub(crate) fn first_transaction(text: &[u8]) -> (&[u8], &[u8])
+fn first_transaction(text: &[u8]) -> (&[u8], &[u8])
     requires length { 4 ≤ length text.now }
     requires bytes { length_at text.now ≤ length (drop 4 text.now) }
     ensures front { result.0.now ≡ take (length_at text.now) (drop 4 text.now) }
     ensures back { result.1.now ≡ drop (length_at text.now) (drop 4 text.now) }
 {
-    let (len, rest) = front::<4>(text);
+    let (len, rest) = text.split_first_chunk::<4>().unwrap();
     rest.split_at(u32::from_be_bytes(*len) as usize)
 }
 

@@ -2,7 +2,7 @@
 use Rattle.std.proofs.Common.{◌≡◌, ◌∙◌, ◌⊎◌, ℕ, true, false, nat_eq, ◌+◌, ◌/◌, ◌%◌, ◌<◌, ◌≤◌, List, [], ◌∷◌, length, map, take, get_or, refl, sym, ap, inl, inr, arith}
 use Rattle.std.specs.Prelude.{Contains}
 use Rattle.std.specs.Cmp.Lexicographic.{pointwise, bytes_decides}
-use Rattle.std.proofs.lemmas.List.{take_more, take_all, take-map, get_or-take, get_or_default, get_or-map, length-take, length-map}
+use Rattle.std.proofs.lemmas.List.{take_more, take-map, get_or-take, get_or_default, get_or-map, length-take, length-map}
 use Rattle.std.proofs.lemmas.List.Elements.{All-map, Contains-push_cases}
 use Rattle.std.proofs.lemmas.List.Quantifiers.{all_pairs_push}
 use Rattle.nw_committee.specs.declared.member.Key.{Key}
@@ -72,10 +72,6 @@ module _ {X : Type 0} (f : X → Key) (xs : List X) (i : ℕ) (x : X) (h : i < l
 
   pub distinct_keys-apart : Contains (map f (take i xs)) (f x) → AreDistinct (map f xs) → ⊥
   distinct_keys-apart among = distinct-apart (map f xs) i (f x) within (at_key (f x)) (rw (take-map f i xs) among)
-
--- the first i keys of a list with at most i elements are all of them
-pub whole_front : {X : Type 0} (f : X → Key) (xs : List X) (i : ℕ) → length xs ≤ i → take i (map f xs) ≡ map f xs
-whole_front f xs i h = take_all i (map f xs) (omega (arith, length-map xs f))
 
 -- ---- members of equal weight
 

@@ -173,6 +173,6 @@ module _ {X : Type 0} (f : X → ℕ) (xs : List X) (i : ℕ) (x : X) (h : i < l
   number_weighs members number weight read own found is_read =
       is_read ∙ (ap (λ (o : Option ℕ). unwrap_or o 0) found ∙ ap (weight_at members) (own ∙ sym number_at))
 
--- the first i numbers of a list with at most i elements are all of them
-pub whole_numbers : {X : Type 0} (f : X → ℕ) (xs : List X) (i : ℕ) → length xs ≤ i → take i (map f xs) ≡ map f xs
-whole_numbers f xs i h = take_all i (map f xs) (omega (arith, length-map xs f))
+-- the first i values of a function on a list with at most i elements are all of them
+pub whole_front : {X Y : Type 0} (f : X → Y) (xs : List X) (i : ℕ) → length xs ≤ i → take i (map f xs) ≡ map f xs
+whole_front f xs i h = take_all i (map f xs) (omega (arith, length-map xs f))

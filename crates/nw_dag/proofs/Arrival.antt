@@ -11,7 +11,7 @@ use Rattle.nw_model.specs.Paths.{IsStanding}
 use Rattle.nw_digest.proofs.Elements.{contains_cases, contains_first, contains_none}
 use Rattle.nw_state.specs.Standing.{Stands, IsMet, name_of}
 use Rattle.nw_dag.specs.Lacking.{ReferencesParent, IsReady, IsPromoted, AreLacking, AreUnmet, AreUnmetWithout}
-use Rattle.nw_dag.specs.Settled.{AreListed}
+use Rattle.nw_dag.specs.AtRest.{AreListed}
 use Rattle.nw_dag.proofs.Pairs.{without_wanted_lacks}
 use Rattle.nw_dag.proofs.Cascade.{met_under}
 

@@ -8,7 +8,7 @@ use Rattle.std.proofs.lemmas.Bool.{cases_lt, true≢false, not-true}
 use Rattle.std.proofs.lemmas.List.{drop_at, length-map}
 use Rattle.std.proofs.lemmas.List.Elements.{All-contains, All-filter, filter_passes, Contains-append_cases, Contains-append_left, Contains-append_right}
 use Rattle.std.proofs.lemmas.List.Filters.{length-filter_both}
-use Rattle.std.proofs.lemmas.Map.Views.{Contains-from_any, list_any-from_Contains}
+use Rattle.std.proofs.lemmas.Map.Views.{list_any-from_Contains}
 use Rattle.nw_digest.specs.declared.digest.Digest.{Digest}
 use Rattle.nw_codec.specs.declared.block.Block.{Block}
 use Rattle.nw_waiting.specs.Pairs.{Pairs}
@@ -19,14 +19,15 @@ use Rattle.nw_model.specs.Step.{raised, collect_reply}
 use Rattle.nw_model.specs.declared.reply.CollectReply.TheVariants as collect
 use Rattle.nw_model.specs.Sound.{IsSound}
 use Rattle.nw_model.proofs.Complete.{one_block}
-use Rattle.nw_digest.proofs.Maps.{digests_total, same_digest}
+use Rattle.nw_model.proofs.Existing.{held_among}
+use Rattle.nw_digest.proofs.Maps.{digests_total}
 use Rattle.nw_digest.proofs.Elements.{contains_none, contains_filter}
 use Rattle.nw_digest.proofs.Found.{which}
 use Rattle.nw_model.proofs.Raised.{was_there, is_kept}
 use Rattle.nw_dag.specs.Lacking.{IsReady}
 use Rattle.nw_dag.specs.Changes.{AppendsThose}
 use Rattle.nw_dag.specs.Frozen.{Grows}
-use Rattle.nw_dag.specs.Settled.{AreListed, HasPendingCount, IsSettling, IsCascading, IsSettled}
+use Rattle.nw_dag.specs.AtRest.{AreListed, HasPendingCount, IsComingToRest, IsCascading, IsAtRest}
 use Rattle.nw_state.specs.Collection.{AreDigestsUpTo}
 use Rattle.nw_dag.specs.Collection.{AreReleased, StandsButLacks, IsCompleteBelow, HasCompleteBelow, IsCollecting}
 use Rattle.nw_dag.proofs.Listed.{listed_fits, most_left}
@@ -44,7 +45,7 @@ kept s complete = filter (λ d. is_some (get s.blocks d)) complete
 held_is : (found : Option Block) (b : Block) → found ≡ Some b → is_some found ≡ true
 held_is found b e = ap is_some e
 
-module _ (s : State) (round : ℕ) (unmet lacking : Pairs) (complete holders : List Digest) (sound : IsSound s) (higher : s.floor < round) (are : AreDigestsUpTo s round holders) (settled : IsSettling s unmet lacking complete []) where
+module _ (s : State) (round : ℕ) (unmet lacking : Pairs) (complete holders : List Digest) (sound : IsSound s) (higher : s.floor < round) (are : AreDigestsUpTo s round holders) (settled : IsComingToRest s unmet lacking complete []) where
   abbrev t : State
   t = raised s round
 
@@ -104,7 +105,7 @@ module _ (s : State) (round : ℕ) (unmet lacking : Pairs) (complete holders : L
     ]
 
     -- the digests that became ready are due
-    pub settling : IsSettling t met new (kept t complete ++ adds.added) adds.added
+    pub settling : IsComingToRest t met new (kept t complete ++ adds.added) adds.added
     settling = record {
       standing = unmet_raised s round sound higher holders are unmet met settled.standing met_without;
       promoted = lacking_raised s round sound higher holders are lacking new without adds.added adds.exactly settled.promoted;
@@ -129,9 +130,6 @@ lost_fits s lacking round holders lost (xs, adds, counts) =
     held : (m : FinMap digest_cmp Block) (x : Digest) → Contains (keys m) x → (b : Block) × (get m x ≡ Some b)
     held m x among = which (get m x) (contains_key-keys m x ∙ list_any-from_Contains (eq_by_cmp_equiv digests_total) x (keys m) among)
 
-    key : (m : FinMap digest_cmp Block) (x : Digest) (b : Block) → get m x ≡ Some b → Contains (keys m) x
-    key m x b at = Contains-from_any same_digest x (keys m) (sym (contains_key-keys m x) ∙ ap is_some at)
-
     apart : (x : Digest) → Contains adds.added x → Contains (keys t.blocks) x → ⊥
     apart x among is =
         let (ready, (b, at, low)) = ((adds.exactly x).0 among).1 in
@@ -142,8 +140,8 @@ lost_fits s lacking round holders lost (xs, adds, counts) =
 
     within : (x : Digest) → Contains (keys t.blocks ++ adds.added) x → Contains (keys s.blocks) x
     within x among = elim (Contains-append_cases (keys t.blocks) adds.added x among) [
-      | inl is ↦ let (c, there) = held t.blocks x is in key s.blocks x c (was_there (λ (y : Block). y.round) round s.blocks x c there).0
-      | inr lost ↦ let (ready, (b, at, low)) = ((adds.exactly x).0 lost).1 in key s.blocks x b at
+      | inl is ↦ let (c, there) = held t.blocks x is in held_among s.blocks x c (was_there (λ (y : Block). y.round) round s.blocks x c there).0
+      | inr lost ↦ let (ready, (b, at, low)) = ((adds.exactly x).0 lost).1 in held_among s.blocks x b at
     ]
 
 raised_by : (b : Bool) (floor n dropped : ℕ) → cond b (collect.NotHigher floor) (collect.Raised n) ≡ collect.Raised dropped → dropped ≡ n
@@ -157,7 +155,7 @@ reply_counts s round dropped is = raised_by (nat_le round s.floor) s.floor (len 
 -- ---- the same, in terms of the contract
 
 module _ (s : State) (unmet lacking : Pairs) (pending : ℕ) (holders : List Digest) (dropped : ℕ) (far : IsCollecting s unmet lacking pending holders dropped) where
-  abbrev was : IsSettling far.before unmet lacking far.settled.complete []
+  abbrev was : IsComingToRest far.before unmet lacking far.settled.complete []
   was = far.settled.settling
 
   abbrev still : List Digest
@@ -196,7 +194,7 @@ module _ (s : State) (unmet lacking : Pairs) (pending : ℕ) (holders : List Dig
       })
 
 -- the garbage round of a settled store was raised
-pub collecting : (before s : State) (round : ℕ) (unmet lacking : Pairs) (pending : ℕ) (low holders : List Digest) (lost dropped : ℕ) → s ≡ raised before round → IsSound before → IsSettled before unmet lacking pending
+pub collecting : (before s : State) (round : ℕ) (unmet lacking : Pairs) (pending : ℕ) (low holders : List Digest) (lost dropped : ℕ) → s ≡ raised before round → IsSound before → IsAtRest before unmet lacking pending
     → before.floor < round → AreDigestsUpTo before round low → holders ≡ low → HasCompleteBelow before lacking round low lost → dropped + lost + len s.blocks ≡ len before.blocks → IsCollecting s unmet lacking pending holders dropped
 collecting before s round unmet lacking pending low holders lost dropped is sound settled higher digests_up_to same are_lost counts =
     subst (λ (t : State). IsCollecting t unmet lacking pending holders dropped) (sym is) (record {

@@ -1,6 +1,7 @@
 -- If nothing is due, the ready digests are exactly the complete ones.
-use Rattle.std.proofs.Common.{◌≡◌, ◌↔◌, ℕ, ◌+◌, ◌-◌, ◌<◌, zero, suc, [], get_or, refl, sym, ◌∙◌, subst, arith, inl, inr}
-use Rattle.std.specs.Prelude.{Contains}
+use Rattle.std.proofs.Common.{◌≡◌, ◌↔◌, ℕ, ◌+◌, ◌-◌, ◌<◌, zero, suc, [], Some, get_or, refl, sym, ◌∙◌, subst, arith, inl, inr}
+use Rattle.std.specs.Prelude.{Contains, IsTrue}
+use Rattle.std.specs.FinMap.{get}
 use Rattle.std.proofs.lemmas.Bool.{cases_lt}
 use Rattle.std.proofs.lemmas.List.Elements.{All-contains, Contains-get_or}
 use Rattle.nw_digest.specs.declared.digest.Digest.{Digest}
@@ -12,9 +13,13 @@ use Rattle.nw_model.specs.State.{State}
 use Rattle.nw_model.specs.Paths.{IsStanding, IsSatisfied, IsComplete}
 use Rattle.nw_model.specs.Sound.{IsSound}
 use Rattle.nw_model.proofs.Complete.{one_block, complete_from_parents, parents_complete}
+use Rattle.nw_model.specs.Step.{certified_digest, is_held}
+use Rattle.nw_model.proofs.Kept.{certified_is}
+use Rattle.nw_digest.specs.Order.{Slot}
+use Rattle.nw_digest.proofs.Found.{which, is_there}
 use Rattle.nw_digest.proofs.Elements.{contains_none}
 use Rattle.nw_state.specs.Standing.{IsMet}
-use Rattle.nw_dag.specs.Lacking.{IsReady, AreLacking}
+use Rattle.nw_dag.specs.Lacking.{IsReady, AreLacking, LacksNothing}
 use Rattle.nw_model.specs.Missing.{IsNamedBy}
 
 -- the parent that a reference names
@@ -67,3 +72,15 @@ module _ (s : State) (lacking : Pairs) (far : AreLacking s lacking []) where
 
   pub ready_complete : IsSound s → (d : Digest) → IsReady s lacking d ↔ IsComplete s d
   ready_complete sound d = (λ ready. complete_below sound (ready.0.0.round + 1) d ready.0.0 (omega arith) ready.0.1 ready, complete_ready d)
+
+  -- a certified digest is complete exactly if its block is held and it lacks nothing
+  pub certified_complete : IsSound s → (slot : Slot) (d : Digest) → certified_digest s slot ≡ Some d → (IsTrue (is_held s d) × LacksNothing lacking d) ↔ IsComplete s d
+  certified_complete sound slot d is =
+      let (c, at, here) = (certified_is s sound slot d).0 is in (
+        λ (held, nothing).
+            let (b, there) = which (get s.blocks d) held in
+            (ready_complete sound d).0 ((b, (there, is_there (get s.certificates d) c at)), nothing),
+        λ whole.
+            let ready = complete_ready d whole in
+            (is_there (get s.blocks d) ready.0.0 ready.0.1.0, ready.1),
+      )

@@ -24,7 +24,7 @@ use Rattle.nw_digest.proofs.Found.{which}
 use Rattle.nw_generation.specs.Seen.{IsOverlay}
 use Rattle.nw_state.specs.Standing.{Stands}
 use Rattle.nw_dag.specs.Lacking.{IsReady}
-use Rattle.nw_dag.specs.Settled.{IsSettled}
+use Rattle.nw_dag.specs.AtRest.{IsAtRest}
 use Rattle.nw_dag.specs.Frozen.{IsHeldReady, AreHeldUnder, AreFrozen, AreFrozenExcept, AreAllOrFrom, Grows}
 use Rattle.nw_dag.proofs.Arrival.{Arrives, AreLackingSince, ready_still, ready_was}
 use Rattle.nw_dag.proofs.Complete.{ready_complete}
@@ -163,7 +163,7 @@ held_same s xs old new d are lacks same q c = (
 
 -- ---- the state that a view shows
 
-pub shown : (s : State) (unmet lacking : Pairs) (pending : ℕ) (v : Frozen) → IsSound s → IsSettled s unmet lacking pending → v.floor ≡ s.floor → AreFrozen s lacking v.blocks → Shows v s
+pub shown : (s : State) (unmet lacking : Pairs) (pending : ℕ) (v : Frozen) → IsSound s → IsAtRest s unmet lacking pending → v.floor ≡ s.floor → AreFrozen s lacking v.blocks → Shows v s
 shown s unmet lacking pending v sound settled floor are = record {
   floor = floor;
   complete = λ d b.

@@ -15,7 +15,7 @@ use Rattle.nw_digest.proofs.Maps.{digests_total, same_digest}
 use Rattle.nw_digest.proofs.Elements.{contains_cases, contains_first, contains_none}
 use Rattle.nw_dag.specs.Lacking.{IsReady}
 use Rattle.nw_dag.specs.Changes.{AppendsThose}
-use Rattle.nw_dag.specs.Settled.{AreListed, HasPendingCount}
+use Rattle.nw_dag.specs.AtRest.{AreListed, HasPendingCount}
 use Rattle.nw_dag.proofs.Once.{once_none, once_one, once_both}
 
 -- ---- numbers of listed digests

@@ -1,6 +1,6 @@
 -- The wanted parents are the unmet ones, of all blocks and of one.
 use Rattle.std.proofs.Common.{◌≡◌, ℕ, ◌<◌, ◌≤◌, List, [], arith, sym, subst, inl, inr}
-use Rattle.nw_digest.proofs.Elements.{contains_none}
+use Rattle.nw_digest.proofs.Elements.{contains_none, ordered_none}
 use Rattle.std.specs.BTreeSet.{insert_key}
 use Rattle.std.specs.List.Sorted.{IsStrictlySortedBy}
 use Rattle.nw_codec.specs.declared.block.Ref.{Ref}
@@ -9,7 +9,6 @@ use Rattle.nw_waiting.specs.Pairs.{Pairs, AreFirst, AreWanted, WantedCount}
 use Rattle.nw_model.specs.declared.wanted.Wanted.{Wanted}
 use Rattle.nw_model.specs.State.{State}
 use Rattle.nw_model.specs.Missing.{ListsExactly, AreFirstWanted, HasCount, IsNamedBy, IsWanted, Wants, wanted_cmp}
-use Rattle.nw_model.proofs.NoneMissing.{ordered_none}
 use Rattle.nw_plain.specs.Added.{IsUnionWith, NamesMissing}
 use Rattle.nw_plain.proofs.Wanting.{Of, lacks_one, of_references, only_wanted}
 use Rattle.nw_state.specs.Standing.{IsMet}
@@ -60,5 +59,5 @@ all_wanted s b missing above adds sorted = only_wanted s b missing (of_reference
 pub wants_none : (s : State) (b : Block) (missing : List Wanted) → b.round ≤ s.floor → missing ≡ [] → ListsExactly wanted_cmp (Wants s b) missing
 wants_none s b missing low none = subst (ListsExactly wanted_cmp (Wants s b)) (sym none) (record {
   exactly = λ w. (λ among. absurd (contains_none w among), λ wants. absurd (let above : s.floor < b.round = wants.0 in omega arith));
-  ascending = ordered_none;
+  ascending = ordered_none wanted_cmp;
 })

@@ -12,7 +12,7 @@ use Rattle.nw_model.specs.declared.wanted.Wanted.{Wanted}
 use Rattle.nw_digest.specs.Order.{digest_cmp}
 use Rattle.nw_model.specs.State.{opening}
 use Rattle.nw_dag.specs.Lacking.{ReferencesParent}
-use Rattle.nw_dag.specs.Settled.{IsSettled}
+use Rattle.nw_dag.specs.AtRest.{IsAtRest}
 use Rattle.nw_dag.proofs.Once.{once_none}
 
 names_nothing : (d : Digest) (w : Wanted) → ReferencesParent opening d w → ⊥
@@ -21,7 +21,7 @@ names_nothing d w (b, at, above, among) = none-some b (sym (get-empty digest_cmp
 lacks_nothing : (d : Digest) (w : Wanted) → Lacks empty d w → ⊥
 lacks_nothing d w lacks = false≢true (sym (contains-empty pair_cmp (w, d)) ∙ lacks)
 
-pub settled_opening : IsSettled opening empty empty 0
+pub settled_opening : IsAtRest opening empty empty 0
 settled_opening = record {
   complete = [];
   settling = record {

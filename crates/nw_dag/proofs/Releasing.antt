@@ -1,5 +1,5 @@
 -- Holders that are released: they lack nothing from then on.
-use Rattle.std.proofs.Common.{◌≡◌, ℕ, ◌+◌, ◌<◌, List, [], ◌∷◌, ◌++◌, length, get_or, take, ap, sym, ◌∙◌, subst, arith, inl, inr, length-append, length-take}
+use Rattle.std.proofs.Common.{◌≡◌, ℕ, ◌+◌, ◌<◌, List, [], ◌∷◌, ◌++◌, length, get_or, take, ap, refl, sym, ◌∙◌, subst, arith, inl, inr, length-append, length-take}
 use Rattle.std.specs.Prelude.{Contains}
 use Rattle.std.specs.List.{IsDistinct}
 use Rattle.std.specs.Ordering.{eq_by_cmp}
@@ -14,12 +14,12 @@ use Rattle.nw_digest.specs.Order.{digest_cmp}
 use Rattle.nw_model.specs.State.{State}
 use Rattle.nw_digest.proofs.Elements.{contains_cases, contains_first, contains_none}
 use Rattle.nw_digest.proofs.Maps.{digests_total}
-use Rattle.nw_dag.specs.Lacking.{LacksNothing, LacksSomething, IsReady}
+use Rattle.nw_dag.specs.Lacking.{LacksSomething, IsReady}
 use Rattle.nw_dag.specs.Changes.{AppendsThose}
-use Rattle.nw_dag.specs.Settled.{AreListed, HasPendingCount}
+use Rattle.nw_dag.specs.AtRest.{AreListed, HasPendingCount}
 use Rattle.nw_dag.specs.Collection.{AreReleased, StandsButLacks}
 use Rattle.nw_dag.proofs.Pairs.{without_holder_lacks}
-use Rattle.nw_dag.proofs.Listed.{adds_more, listed_both, most_left, one_left, pending_left}
+use Rattle.nw_dag.proofs.Listed.{adds_more, listed_both, most_left, pending_left}
 
 -- ---- one holder
 
@@ -33,26 +33,6 @@ listed_without s old new holder complete is listed = record {
 -- a digest that lacks a parent is not listed
 pub lacking_apart : (s : State) (lacking : Pairs) (complete : List Digest) (holder : Digest) → AreListed s lacking complete → LacksSomething lacking holder → Contains complete holder → ⊥
 lacking_apart s lacking complete holder listed lacks among = (All-contains (IsReady s lacking) complete holder listed.ready among).1 lacks.0 lacks.1
-
--- the holder lacked a parent, and is listed if it stands
-pub stuck_added : (s : State) (old new : Pairs) (holder : Digest) (complete more : List Digest) → new ≡ without_holder old holder → LacksSomething old holder
-    → AppendsThose (IsReady s new) (holder ∷ []) complete more → AppendsThose (StandsButLacks s old) (holder ∷ []) complete more
-stuck_added s old new holder complete more is lacks adds = record {
-  added = adds.added;
-  are = adds.are;
-  once = adds.once;
-  exactly = λ x. (
-    λ among. let both = (adds.exactly x).0 among in (both.0, (both.1.0, subst (LacksSomething old) (itself x both.0) lacks)),
-    λ both. (adds.exactly x).1 (both.0, (both.1.0, λ w still. ((without_holder_lacks old holder x w).0 (subst (λ (m : Pairs). Lacks m x w) is still)).1 (itself x both.0))),
-  );
-}
-  where
-    itself : (x : Digest) → Contains (holder ∷ []) x → holder ≡ x
-    itself x among = elim (contains_cases holder [] x among) [ inl same ↦ same | inr none ↦ absurd (contains_none x none) ]
-
--- the holder lacked nothing
-pub none_stuck : (s : State) (lacking : Pairs) (holder : Digest) (complete : List Digest) → LacksNothing lacking holder → AppendsThose (StandsButLacks s lacking) (holder ∷ []) complete complete
-none_stuck s lacking holder complete nothing = one_left (StandsButLacks s lacking) holder complete (λ both. nothing both.1.0 both.1.1)
 
 -- ---- one holder after another
 
@@ -101,17 +81,19 @@ stuck_more s holders d old mid a b c without apart adds last = adds_more (Stands
 
 -- ---- numbers of pending blocks
 
--- a holder that lacked a parent is pending
-pub stuck_pending : (s : State) (old new : Pairs) (holder : Digest) (pending : ℕ) → new ≡ without_holder old holder → LacksSomething old holder → HasPendingCount s old [] pending → IsReady s new holder → 0 < pending
-stuck_pending s old new holder pending is lacks counted ready = pending_left s new (holder ∷ []) pending holder (record {
-  complete = counted.complete;
-  listed = listed_without s old new holder counted.complete is counted.listed;
-  apart = λ x among. elim (contains_cases holder [] x among) [
-    | inl same ↦ subst (λ y. Contains counted.complete y → ⊥) same (lacking_apart s old counted.complete holder counted.listed lacks)
-    | inr none ↦ absurd (contains_none x none)
-  ];
-  counts = counted.counts;
-}) (contains_first holder []) ready
+-- a holder that stands, but lacks a parent, is pending
+pub stuck_pending : (s : State) (old : Pairs) (holder : Digest) (pending : ℕ) → StandsButLacks s old holder → HasPendingCount s old [] pending → 0 < pending
+stuck_pending s old holder pending stuck counted =
+    let new = without_holder old holder in
+    pending_left s new (holder ∷ []) pending holder (record {
+      complete = counted.complete;
+      listed = listed_without s old new holder counted.complete refl counted.listed;
+      apart = λ x among. elim (contains_cases holder [] x among) [
+        | inl same ↦ subst (λ y. Contains counted.complete y → ⊥) same (lacking_apart s old counted.complete holder counted.listed stuck.1)
+        | inr none ↦ absurd (contains_none x none)
+      ];
+      counts = counted.counts;
+    }) (contains_first holder []) (stuck.0, λ w still. ((without_holder_lacks old holder holder w).0 still).1 refl)
 
 module _ (s : State) (old new : Pairs) (holders complete fresh more : List Digest) (without : AreReleased holders old new) (adds : AppendsThose (StandsButLacks s old) holders fresh more) (listed : AreListed s old complete) where
   still : (x : Digest) → IsReady s old x → IsReady s new x

@@ -17,9 +17,8 @@ use Rattle.nw_digest.specs.declared.digest.Digest.{Digest}
 use Rattle.nw_trie.proofs.Inserts.{sorted_insert}
 use Rattle.nw_digest.specs.Order.{digest_cmp}
 use Rattle.nw_model.specs.Missing.{HasCount}
-use Rattle.nw_digest.proofs.Elements.{contains_cases, contains_first, contains_later}
+use Rattle.nw_digest.proofs.Elements.{contains_cases, contains_first, contains_later, ordered_none}
 use Rattle.nw_digest.proofs.Maps.{digests_total, digests_apart, lookup_put, put_entries, get_lookup, len_sorted, same_digest}
-use Rattle.nw_state.proofs.Opening.{ordered_none}
 
 -- the digests of the list, as the keys of sorted entries
 record InOrder (xs : List Digest) : Type 0 where
@@ -73,7 +72,7 @@ one_more d xs apart o =
     }
 
 in_order : (xs : List Digest) → IsDistinct (eq_by_cmp digest_cmp) xs → InOrder xs
-in_order [] once = record { entries = []; sorted = ordered_none; exactly = λ x. (λ among. among, λ among. among); counts = refl }
+in_order [] once = record { entries = []; sorted = ordered_none digest_cmp; exactly = λ x. (λ among. among, λ among. among); counts = refl }
 in_order (d ∷ xs) once =
     let others = All-from_recursion (λ y. eq_by_cmp digest_cmp d y ≡ false) xs (IsDistinct-head (eq_by_cmp digest_cmp) d xs once) in
     one_more d xs (λ among. true≢false (sym ((eq_by_cmp_equiv digests_total).refl d) ∙ All-contains (λ y. eq_by_cmp digest_cmp d y ≡ false) xs d others among))

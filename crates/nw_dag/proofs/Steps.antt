@@ -15,7 +15,7 @@ use Rattle.nw_state.specs.Standing.{IsMet, Stands, name_of}
 use Rattle.nw_dag.specs.Lacking.{IsReady, AreUnmet, AreUnmetWithout}
 use Rattle.nw_dag.specs.Changes.{AppendsThose, Promotes}
 use Rattle.nw_dag.specs.Frozen.{Grows}
-use Rattle.nw_dag.specs.Settled.{AreListed, HasPendingCount, IsSettling, IsCascading, IsSettled, IsSettledWithout}
+use Rattle.nw_dag.specs.AtRest.{AreListed, HasPendingCount, IsComingToRest, IsCascading, IsAtRest, IsAtRestWithout}
 use Rattle.nw_dag.proofs.Pairs.{without_wanted_lacks, lacks_or_not, same_or_not}
 use Rattle.nw_dag.proofs.Cascade.{promoted}
 use Rattle.nw_dag.proofs.Arrival.{met_now, met_not_yet, not_ready_yet}
@@ -116,7 +116,7 @@ module _ (s : State) (unmet old new : Pairs) (e : Digest) (rest fresh more : Lis
   pub next_due : IsCascading s unmet new (rest ++ step.added) left
   next_due = record {
     front = far.front ++ e ∷ [];
-    settling = subst (λ xs. IsSettling s unmet new xs (rest ++ step.added)) longer (record {
+    settling = subst (λ xs. IsComingToRest s unmet new xs (rest ++ step.added)) longer (record {
       standing = far.settling.standing;
       promoted = promoted s e old new fresh more rest far.settling.promoted e_ready (first_once e rest (once_back far.front (e ∷ rest) far.settling.listed.once)) step;
       listed = listed;
@@ -152,7 +152,7 @@ grown_more s P first old new start fresh more e grown step = record {
 }
 
 -- no digest is left
-pub none_due : (s : State) (unmet lacking : Pairs) (fresh : List Digest) (pending place : ℕ) → IsCascading s unmet lacking (drop place fresh) pending → length fresh ≤ place → IsSettled s unmet lacking pending
+pub none_due : (s : State) (unmet lacking : Pairs) (fresh : List Digest) (pending place : ℕ) → IsCascading s unmet lacking (drop place fresh) pending → length fresh ≤ place → IsAtRest s unmet lacking pending
 none_due s unmet lacking fresh pending place far past =
     let end = subst (λ xs. IsCascading s unmet lacking xs pending) (drop_all place fresh past) far in
     record { complete = end.front ++ []; settling = end.settling; counts = end.counts }
@@ -171,7 +171,7 @@ met_at s d v name stands =
     subst (IsMet s) (sym same) (b, (held, stands.1.1), refl, refl)
 
 -- d does not stand, or lacks a parent
-pub not_standing : (s : State) (d : Digest) (unmet lacking : Pairs) (pending : ℕ) → (Stands s d → ⊥) → IsSettledWithout s d unmet lacking pending → IsSettled s unmet lacking pending
+pub not_standing : (s : State) (d : Digest) (unmet lacking : Pairs) (pending : ℕ) → (Stands s d → ⊥) → IsAtRestWithout s d unmet lacking pending → IsAtRest s unmet lacking pending
 not_standing s d unmet lacking pending never far = record {
   complete = far.complete;
   settling = record {
@@ -183,7 +183,7 @@ not_standing s d unmet lacking pending never far = record {
   counts = far.counts;
 }
 
-pub not_ready : (s : State) (d : Digest) (unmet met lacking : Pairs) (pending : ℕ) → (IsReady s lacking d → ⊥) → AreUnmet s met → IsSettledWithout s d unmet lacking pending → IsSettled s met lacking pending
+pub not_ready : (s : State) (d : Digest) (unmet met lacking : Pairs) (pending : ℕ) → (IsReady s lacking d → ⊥) → AreUnmet s met → IsAtRestWithout s d unmet lacking pending → IsAtRest s met lacking pending
 not_ready s d unmet met lacking pending never standing far = record {
   complete = far.complete;
   settling = record {
@@ -204,7 +204,7 @@ grown_none s d lacking fresh never = record {
 }
 
 -- d is ready, and due
-pub pending_but : (s : State) (d : Digest) (unmet lacking : Pairs) (pending : ℕ) → IsSettledWithout s d unmet lacking pending → IsReady s lacking d → 0 < pending
+pub pending_but : (s : State) (d : Digest) (unmet lacking : Pairs) (pending : ℕ) → IsAtRestWithout s d unmet lacking pending → IsReady s lacking d → 0 < pending
 pending_but s d unmet lacking pending far ready = pending_left s lacking (d ∷ []) pending d (record {
   complete = far.complete;
   listed = far.listed;
@@ -213,7 +213,7 @@ pending_but s d unmet lacking pending far ready = pending_left s lacking (d ∷ 
 }) (contains_first d []) ready
 
 pub now_ready : (s : State) (d : Digest) (unmet met lacking : Pairs) (fresh more : List Digest) (pending left place : ℕ) → AreUnmet s met → IsReady s lacking d → more ≡ fresh ++ d ∷ [] → left ≡ pending - 1 → place ≡ length fresh
-    → IsSettledWithout s d unmet lacking pending → IsCascading s met lacking (drop place more) left
+    → IsAtRestWithout s d unmet lacking pending → IsCascading s met lacking (drop place more) left
 now_ready s d unmet met lacking fresh more pending left place standing ready is one at far =
     let lt = pending_but s d unmet lacking pending far ready in
     subst (λ xs. IsCascading s met lacking xs left) (sym (ap (drop place) is ∙ drop_at fresh (d ∷ []) place (sym at))) (record {

@@ -18,7 +18,7 @@ use Rattle.nw_digest.proofs.Found.{not_there}
 use Rattle.nw_state.specs.Standing.{IsMet}
 use Rattle.nw_dag.specs.Lacking.{ReferencesParent, IsNamedAmong, IsReady, AreSplit, AreUnmet, AreLacking}
 use Rattle.nw_dag.specs.Changes.{AreSameExcept, LacksAlso}
-use Rattle.nw_dag.specs.Settled.{IsSettling, IsSettled, IsSettledWithout}
+use Rattle.nw_dag.specs.AtRest.{IsComingToRest, IsAtRest, IsAtRestWithout}
 use Rattle.nw_waiting.proofs.Orders.{pairs_apart, pairs_total}
 use Rattle.nw_dag.proofs.Pairs.{without_holder_lacks, without_wanted_lacks}
 use Rattle.nw_dag.proofs.Arrival.{Arrives, AreLackingSince, arrived, listed_arrived, listed_apart, ready_was, unmet_arrived}
@@ -80,8 +80,8 @@ module _ (s : State) (d : Digest) (b : Block) (vote : Bool) (absent : get s.bloc
   }
 
   -- the tables are settled, without counting the new block
-  pub written : (unmet lacking met after : Pairs) (pending more : ℕ) → IsSettled s unmet lacking pending → LacksAlso (IsMet s) named d unmet met
-      → LacksAlso (λ w. IsMet s w × IsReady s lacking w.digest) named d lacking after → more ≡ pending + 1 → IsSettledWithout t d met after more
+  pub written : (unmet lacking met after : Pairs) (pending more : ℕ) → IsAtRest s unmet lacking pending → LacksAlso (IsMet s) named d unmet met
+      → LacksAlso (λ w. IsMet s w × IsReady s lacking w.digest) named d lacking after → more ≡ pending + 1 → IsAtRestWithout t d met after more
   written unmet lacking met after pending more known wants_met wants one_more = record {
     complete = known.complete;
     standing = unmet_arrived s t d block_arrives met (λ h w. (
@@ -101,7 +101,7 @@ module _ (s : State) (d : Digest) (b : Block) (vote : Bool) (absent : get s.bloc
     counts = let longer = len-insert digests_total s.blocks d b ∙ ap (λ found. cond (is_some found) (len s.blocks) (len s.blocks + 1)) absent in omega (arith, longer, known.counts, one_more);
   }
     where
-      settled : IsSettling s unmet lacking known.complete []
+      settled : IsComingToRest s unmet lacking known.complete []
       settled = known.settling
 
       since : AreLackingSince s t d lacking after
@@ -126,7 +126,7 @@ module _ (s : State) (c : Certificate) (absent : get s.certificates c.digest ≡
     same = λ h w other. (λ lacks. lacks, λ lacks. lacks);
   }
 
-  pub certified : (unmet lacking : Pairs) (pending : ℕ) → IsSettled s unmet lacking pending → IsSettledWithout (with_certificate s c) c.digest unmet lacking pending
+  pub certified : (unmet lacking : Pairs) (pending : ℕ) → IsAtRest s unmet lacking pending → IsAtRestWithout (with_certificate s c) c.digest unmet lacking pending
   certified unmet lacking pending known =
       let settled = known.settling in
       let since = since_certified lacking settled.promoted in

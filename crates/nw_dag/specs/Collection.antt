@@ -1,4 +1,4 @@
--- What a collection changes in the tables. Lacking defines the sets of missing parents, and Settled the count of pending blocks.
+-- What a collection changes in the tables. Lacking defines the sets of missing parents, and AtRest the count of pending blocks.
 use Rattle.std.specs.Prelude.{◌≡◌, ◌↔◌, ℕ, ◌+◌, ◌<◌, List, [], Some, Contains, length}
 use Rattle.std.specs.FinMap.{get, len}
 use Rattle.nw_digest.specs.declared.digest.Digest.{Digest}
@@ -12,7 +12,7 @@ use Rattle.nw_state.specs.Standing.{Stands}
 use Rattle.nw_state.specs.Collection.{AreDigestsUpTo}
 use Rattle.nw_dag.specs.Lacking.{LacksSomething, IsReady}
 use Rattle.nw_dag.specs.Changes.{AppendsThose}
-use Rattle.nw_dag.specs.Settled.{IsSettled}
+use Rattle.nw_dag.specs.AtRest.{IsAtRest}
 
 -- the holders are released: they no longer lack anything, and nothing else changes
 abbrev pub AreReleased : List Digest → Pairs → Pairs → Type 0
@@ -37,7 +37,7 @@ pub record IsCollecting (s : State) (unmet lacking : Pairs) (pending : ℕ) (hol
   -- it was sound
   pub sound : IsSound before
   -- the sets and the count of pending blocks are right for it
-  pub settled : IsSettled before unmet lacking pending
+  pub settled : IsAtRest before unmet lacking pending
   -- the garbage round is higher now
   pub higher : before.floor < s.floor
   -- the state is the one before, raised to the new garbage round

@@ -8,7 +8,7 @@ use Rattle.nw_digest.specs.Order.{digest_cmp}
 use Rattle.nw_model.specs.State.{State}
 use Rattle.nw_model.specs.Step.{from_round}
 use Rattle.nw_dag.specs.Lacking.{IsReady}
-use Rattle.nw_dag.specs.Settled.{IsSettled}
+use Rattle.nw_dag.specs.AtRest.{IsAtRest}
 
 -- these are exactly the blocks held under these digests
 abbrev pub AreHeldUnder : State → List Digest → FinMap digest_cmp Block → Type 0
@@ -49,6 +49,6 @@ pub record Grows (s : State) (P : Digest → Type 0) (old new : Pairs) (fresh mo
 -- the invariant of the tables of a store, which holds between two calls
 pub record IsDag (s : State) (unmet lacking : Pairs) (fresh : List Digest) (pending : ℕ) (blocks : FinMap digest_cmp Block) : Type 0 where
   -- the two sets and the number of pending blocks are right
-  pub settled : IsSettled s unmet lacking pending
+  pub settled : IsAtRest s unmet lacking pending
   -- each complete block is frozen or fresh
   pub frozen : AreFrozenExcept s lacking fresh blocks

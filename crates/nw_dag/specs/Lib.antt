@@ -1,5 +1,5 @@
 pub mod Lacking
 pub mod Changes
-pub mod Settled
+pub mod AtRest
 pub mod Frozen
 pub mod Collection

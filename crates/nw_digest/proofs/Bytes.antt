@@ -1,5 +1,5 @@
--- Lists of bytes, compared index by index.
-use Rattle.std.proofs.Common.{◌≡◌, ◌∙◌, ℕ, ◌<◌, Bool, true, false, ◌≤◌, ◌+◌, ◌*◌, drop, List, zero, suc, length, get_or, refl, sym, ap, arith}
+-- Lists of bytes, index by index.
+use Rattle.std.proofs.Common.{Fits, w8, ◌≡◌, ◌∙◌, ℕ, ◌<◌, Bool, true, false, ◌≤◌, ◌+◌, ◌*◌, drop, List, zero, suc, length, get_or, refl, sym, ap, inl, inr, arith}
 use Rattle.std.specs.Bool.{MatchBool}
 use Rattle.std.specs.declared.cmp.Ordering.{Ordering}
 use Rattle.std.specs.declared.cmp.Ordering.TheVariants.{Less, Equal, Greater}
@@ -10,7 +10,22 @@ use Rattle.std.specs.Str.{bytes_eq}
 use Rattle.std.specs.Int.{w64, from_be_bytes}
 use Rattle.std.specs.Cmp.Lexicographic.{bytes_decides}
 use Rattle.std.specs.FinMap.{nat_cmp-IsAntisymmetric}
-use Rattle.std.proofs.lemmas.List.{ext_get_or, drop_more, get_or-drop}
+use Rattle.std.proofs.lemmas.Bool.{cases_lt}
+use Rattle.std.proofs.lemmas.List.{ext_get_or, drop_more, get_or-drop, get_or_past}
+use Rattle.std.proofs.lemmas.List.Elements.{All-from_get_or}
+use Rattle.nw_digest.specs.Bytes.{AreBytes}
+
+-- the items of a slice of `u8` are bytes
+pub are_bytes : (bytes : List ℕ) → ((i : ℕ) → Fits w8 (get_or bytes i 0)) → AreBytes bytes
+are_bytes bytes fits = All-from_get_or (λ b. b < 256) bytes 0 (λ i lt. omega (arith, fits i))
+
+-- the number at each index of a list of bytes is below 256
+pub byte_below : (bytes : List ℕ) → AreBytes bytes → (i : ℕ) → get_or bytes i 0 < 256
+byte_below bytes h i =
+    elim (cases_lt i (length bytes)) [
+      | inl lt ↦ h i 0 lt
+      | inr le ↦ let past = get_or_past bytes i 0 le in rw past (omega arith)
+    ]
 
 -- lists of 32 bytes with the same byte at each index are equal
 pub same_bytes : (xs ys : List ℕ) → length xs ≡ 32 → length ys ≡ 32 → ((k : ℕ) → k < 32 → get_or xs k 0 ≡ get_or ys k 0) → xs ≡ ys

@@ -1,6 +1,8 @@
 -- The elements of a list.
 use Rattle.std.proofs.Common.{◌≡◌, ◌⊎◌, ◌↔◌, zero, suc, Bool, true, false, cond, List, [], ◌∷◌, filter, map, refl, sym, subst, arith, inl, inr}
 use Rattle.std.specs.Prelude.{Contains}
+use Rattle.std.specs.declared.cmp.Ordering.{Ordering}
+use Rattle.std.specs.List.Sorted.{IsStrictlySortedBy}
 
 pub contains_first : {X : Type 0} (x : X) (xs : List X) → Contains (x ∷ xs) x
 contains_first x xs = (0, omega arith, refl)
@@ -14,6 +16,11 @@ contains_cases y xs x (suc k, lt, at) = inr (k, omega arith, at)
 
 pub contains_none : {X : Type 0} (x : X) → Contains [] x → ⊥
 contains_none x (k, lt, at) = omega arith
+
+-- no elements are in every order
+pub ordered_none : {X : Type 0} (R : X → X → Ordering) → IsStrictlySortedBy R []
+unfolding IsStrictlySortedBy
+ordered_none R = tt
 
 -- two functions that agree on the elements of a list map it to the same list
 pub same_map : {X Y : Type 0} (f g : X → Y) (xs : List X) → ((x : X) → Contains xs x → f x ≡ g x) → map f xs ≡ map g xs

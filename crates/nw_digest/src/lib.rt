@@ -4,6 +4,7 @@
 //! `thiserror`.
 #![tactic(auto)]
 
+mod byte_slice;
 mod digest;
 mod in_round;
 mod memory;
@@ -11,6 +12,7 @@ mod round;
 mod sequence;
 mod shared;
 
+pub use byte_slice::note_bytes;
 pub use digest::{Digest, digest_of};
 pub use in_round::InRound;
 pub use memory::NoMemory;

@@ -6,8 +6,9 @@ use Rattle.std.specs.FinMap as map
 use Rattle.std.specs.FinMap.{FinMap, entries, from_entries, get}
 use Rattle.nw_digest.specs.declared.digest.Digest.{Digest}
 use Rattle.nw_codec.specs.declared.block.Block.{Block}
+use Rattle.nw_digest.specs.Codes.{coded_digest}
 use Rattle.nw_digest.specs.Order.{digest_cmp}
-use Rattle.nw_model.specs.State.{coded_digest, coded_block}
+use Rattle.nw_model.specs.State.{coded_block}
 use Rattle.nw_model.specs.View.{Frozen, IsClosed, coded_frozen}
 
 -- the entries of all generations: the generations are given from the oldest to the latest, and the latest one's entries come first

@@ -21,8 +21,9 @@ pub struct Descent<'a> {
 impl<'a> Model for Descent<'a> {
     ghost use Rattle.std.specs.FinMap as map;
     ghost use Rattle.nw_codec.specs.declared.block.Block.{Block};
+    ghost use Rattle.nw_digest.specs.Codes.{coded_digest};
     ghost use Rattle.nw_digest.specs.Order.{digest_cmp};
-    ghost use Rattle.nw_model.specs.State.{coded_digest, coded_block};
+    ghost use Rattle.nw_model.specs.State.{coded_block};
     ghost use Rattle.nw_generation.specs.Seen.{union};
 
     ghost Value = { map.FinMap digest_cmp Block };

@@ -39,9 +39,6 @@ impl Limits {
     pub(crate) fn is_same(&self, other: &Limits) -> bool
         ensures { IsTrue result ↔ self.now ≡ other.now }
     {
-        self.blocks == other.blocks
-            && self.events == other.events
-            && self.window == other.window
-            && self.sessions == other.sessions
+        self == other
     }
 }

@@ -1,5 +1,7 @@
 //! The names of blocks.
+ghost use Rattle.std.specs.Prelude.{◌≡◌};
 ghost use Rattle.nw_codec.specs.Fits.{Fits};
+ghost use Rattle.nw_model.specs.Checks.{digest_of};
 
 use crate::fault::LineFault;
 use nw_codec::{Block, Ref, block_digest};
@@ -18,25 +20,30 @@ pub struct NamedBlock {
 
 impl Model for NamedBlock {
     ghost use Rattle.nw_codec.specs.declared.block.Block.{Block};
+    ghost use Rattle.std.specs.Prelude.{◌≡◌};
     ghost use Rattle.nw_codec.specs.Fits.{Fits};
+    ghost use Rattle.nw_model.specs.Checks.{digest_of};
 
     ghost Value = { Block };
 
     ghost view = { λ named. named.block };
 
-    ghost invariant = { λ named. Fits named.block };
+    ghost invariant = { λ named. Fits named.block × (named.digest ≡ digest_of named.block) };
 }
 
 impl NamedBlock {
     /// The block.
     pub fn block(&self) -> &Block
-        ensures { Fits result.now }
+        ensures block { result.now ≡ self.now }
+        ensures fits { Fits result.now }
     {
         &self.block
     }
 
     /// The digest of the block.
-    pub fn digest(&self) -> Digest {
+    pub fn digest(&self) -> Digest
+        ensures { result ≡ digest_of self.now }
+    {
         self.digest
     }
 }

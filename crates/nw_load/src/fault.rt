@@ -1,5 +1,4 @@
 //! Faults of a load and of its threads.
-use nw_codec::EncodeError;
 use nw_digest::NoMemory;
 use nw_intake::GateShut;
 use nw_interpreter::LineFault;
@@ -71,16 +70,6 @@ impl<T: Drop> From<AllocFailed<T>> for Stop {
 impl From<GateShut> for Stop {
     fn from(_error: GateShut) -> Stop {
         Stop::GateShut
-    }
-}
-
-// Blocks and certificates of a load are within the limits of the formats.
-impl From<EncodeError> for Stop {
-    fn from(error: EncodeError) -> Stop {
-        match error {
-            EncodeError::NoMemory => Stop::NoMemory,
-            EncodeError::OverLimit => Stop::CutOff,
-        }
     }
 }
 

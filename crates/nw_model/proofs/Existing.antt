@@ -166,7 +166,7 @@ one_standing s x y b c sound at_x at_y tied =
     sound.one_certificate x y of_x.0 of_y.0 of_x.1 of_y.1 (sym (sound.one_slot x b of_x.0 at_x.0 of_x.1) ∙ sym slot_x ∙ same ∙ slot_y ∙ sound.one_slot y c of_y.0 at_y.0 of_y.1)
 
 -- a digest under which a block is held is among the keys
-held_among : (held : FinMap digest_cmp Block) (a : Digest) (b : Block) → get held a ≡ Some b → Contains (keys held) a
+pub held_among : (held : FinMap digest_cmp Block) (a : Digest) (b : Block) → get held a ≡ Some b → Contains (keys held) a
 held_among held a b at = Contains-from_any same_digest a (keys held) (sym (contains_key-keys held a) ∙ ap is_some at)
 
 -- the ancestors of a digest can be listed

@@ -1,7 +1,6 @@
 -- The invariant of a store with an index (IsSoundWithIndex), step by step.
-use Rattle.std.proofs.Common.{◌≡◌, ◌≤◌, Bool, true, false, not, List, [], ◌∷◌, Option, Some, None, cond, is_some, refl, ap, sym, ◌∙◌, subst, arith, inl, inr, ◌⊎◌}
-use Rattle.std.proofs.lemmas.Bool.{and_parts, eqb-true}
-use Rattle.std.specs.Prelude.{◌↔◌, Result, Ok, Err, OnOk, OnErr, ◌==◌, ◌||◌, find}
+use Rattle.std.proofs.Common.{◌≡◌, ◌≤◌, Bool, true, false, not, List, [], ◌∷◌, Option, Some, None, cond, is_some, refl, ap, sym, ◌∙◌, subst, inl, inr, ◌⊎◌}
+use Rattle.std.specs.Prelude.{◌↔◌, Result, Ok, Err, OnOk, OnErr, ◌||◌, find}
 use Rattle.std.specs.List.{list_any}
 use Rattle.std.specs.declared.cmp.Ordering.{Ordering}
 use Rattle.std.specs.Ordering.{eq_by_cmp}
@@ -16,18 +15,9 @@ use Rattle.nw_model.specs.State.{State, block_slot, certificate_slot}
 use Rattle.nw_model.specs.Step.{is_slot, has_other_slot, is_certified_for, certified_digest, with_block, with_certificate}
 use Rattle.nw_model.specs.Sound.{IsSound, IsIndex, IsSoundWithIndex}
 use Rattle.nw_digest.proofs.Maps.{digests_total, slots_total, slots_apart, tie, same_digest}
+use Rattle.nw_model.proofs.Sames.{same_slot_decides}
 
 -- ---- tests
-
-pub same_slot : (a b : Slot) → is_slot a b ≡ true → a ≡ b
-same_slot a b e =
-    let both : ((a.0 == b.0) ≡ true) × ((a.1 == b.1) ≡ true) = and_parts (a.0 == b.0) (a.1 == b.1) e in
-    let first : a.0 ≡ b.0 = eqb-true a.0 b.0 both.0 in
-    let second : a.1 ≡ b.1 = eqb-true a.1 b.1 both.1 in
-    λ i. (first i, second i)
-
-pub slot_itself : (a : Slot) → is_slot a a ≡ true
-slot_itself a = grind arith
 
 -- a found element passes the test
 find_passes : {X : Type 0} (p : X → Bool) (xs : List X) (x : X) → find p xs ≡ Some x → p x ≡ true
@@ -54,12 +44,12 @@ find_misses R p q (k ∷ ks) same any passes none = by (eq_by_cmp R q k) refl (p
 
 test_of : (found : Option Certificate) (slot : Slot) → option_map_or (λ c. is_slot (certificate_slot c) slot) found false ≡ true → (c : Certificate) × (found ≡ Some c) × (certificate_slot c ≡ slot)
 test_of None slot e = absurd cc
-test_of (Some c) slot e = (c, refl, same_slot (certificate_slot c) slot e)
+test_of (Some c) slot e = (c, refl, (same_slot_decides (certificate_slot c) slot).0 e)
 
 certified_passes : (found : Option Certificate) (c : Certificate) (slot : Slot) → found ≡ Some c → certificate_slot c ≡ slot → option_map_or (λ x. is_slot (certificate_slot x) slot) found false ≡ true
 certified_passes found c slot is at =
     subst (λ f. option_map_or (λ x. is_slot (certificate_slot x) slot) f false ≡ true) (sym is)
-    (subst (λ (t : Slot). is_slot (certificate_slot c) t ≡ true) at (slot_itself (certificate_slot c)))
+    (subst (λ (t : Slot). is_slot (certificate_slot c) t ≡ true) at ((same_slot_decides (certificate_slot c) (certificate_slot c)).1 refl))
 
 -- the index gives the certified digest of a slot
 pub index_answers : (s : State) (index : FinMap slot_cmp Digest) (slot : Slot) → IsIndex s.certificates index → get index slot ≡ certified_digest s slot
@@ -82,7 +72,7 @@ apart_slot : {X : Type 0} (slot_of : X → Slot) (found : Option X) (slot : Slot
 apart_slot slot_of None slot x e is = absurd cc
 apart_slot slot_of (Some y) slot x e is =
     let same : y ≡ x = cc in
-    subst (λ z. slot_of z ≡ slot) same (same_slot (slot_of y) slot (not_false (is_slot (slot_of y) slot) e))
+    subst (λ z. slot_of z ≡ slot) same ((same_slot_decides (slot_of y) slot).0 (not_false (is_slot (slot_of y) slot) e))
   where
     not_false : (b : Bool) → not b ≡ false → b ≡ true
     not_false true h = refl

@@ -1,7 +1,6 @@
 -- Blocks with no missing parents.
-use Rattle.std.proofs.Common.{◌≡◌, ◌+◌, ◌-◌, ◌<◌, [], get_or, refl, subst, arith, inl, inr}
+use Rattle.std.proofs.Common.{◌≡◌, ◌+◌, ◌-◌, ◌<◌, get_or, refl, subst, arith, inl, inr}
 use Rattle.std.specs.Prelude.{All}
-use Rattle.std.specs.List.Sorted.{IsStrictlySortedBy}
 use Rattle.std.proofs.lemmas.List.Elements.{All-contains, Contains-get_or}
 use Rattle.nw_codec.specs.declared.block.Block.{Block}
 use Rattle.nw_model.specs.declared.wanted.Wanted.{Wanted}
@@ -11,7 +10,7 @@ use Rattle.nw_model.specs.Missing.{Wants, wanted_cmp}
 use Rattle.nw_model.specs.Laws.{BlocksWithTheirParentsMissNone}
 use Rattle.nw_model.proofs.Complete.{one_block}
 use Rattle.nw_model.proofs.Contained.{decided_satisfied}
-use Rattle.nw_digest.proofs.Elements.{contains_none}
+use Rattle.nw_digest.proofs.Elements.{contains_none, ordered_none}
 
 -- a block that wants no parent has all its references satisfied
 all_satisfied : (s : State) (b : Block) → ((w : Wanted) → Wants s b w → ⊥) → s.floor < b.round → All (IsSatisfied s b.round) b.parents
@@ -27,12 +26,8 @@ all_satisfied s b none above = λ k r lt.
 wants_none : (s : State) (b : Block) → (s.floor < b.round → All (IsSatisfied s b.round) b.parents) → (w : Wanted) → Wants s b w → ⊥
 wants_none s b all w (above, r, among, not, named) = not (All-contains (IsSatisfied s b.round) b.parents r (all above) among)
 
-pub ordered_none : IsStrictlySortedBy wanted_cmp []
-unfolding IsStrictlySortedBy
-ordered_none = tt
-
 pub none_missing : BlocksWithTheirParentsMissNone
 none_missing s d b at = (
   λ (held, here, lists). all_satisfied s b (λ w wants. contains_none w ((lists.exactly w).1 (subst (λ (x : Block). Wants s x w) (one_block b held at here) wants))),
-  λ all. (b, at, record { exactly = λ w. (λ among. absurd (contains_none w among), λ wants. absurd (wants_none s b all w wants)); ascending = ordered_none }),
+  λ all. (b, at, record { exactly = λ w. (λ among. absurd (contains_none w among), λ wants. absurd (wants_none s b all w wants)); ascending = ordered_none wanted_cmp }),
 )

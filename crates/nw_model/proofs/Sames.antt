@@ -17,27 +17,25 @@ use Rattle.nw_codec.specs.declared.certificate.Certificate.{Certificate}
 use Rattle.nw_codec.specs.Same.{same_bytes, same_ref, same_block}
 use Rattle.nw_digest.specs.Order.{digest_cmp, Slot, slot_cmp}
 use Rattle.nw_model.specs.State.{State, opening}
+use Rattle.nw_model.specs.Step.{is_slot, is_digest}
 use Rattle.nw_digest.proofs.Maps.{get_lookup}
 
 -- a test that decides one statement decides each equivalent statement
 by_parts : {P Q : Type 0} (r : Bool) → (P → Q) → (Q → P) → Decides r P → Decides r Q
 by_parts r to from d = (λ e. to (d.0 e), λ q. d.1 (from q))
 
-abbrev pub same_digest : Digest → Digest → Bool
-same_digest a b = same_bytes a.0 b.0
-
 digest_of : List ℕ → Digest
 digest_of bytes = record { 0 = bytes }
 
-pub same_digest_decides : (a b : Digest) → Decides (same_digest a b) (a ≡ b)
+pub same_digest_decides : (a b : Digest) → Decides (is_digest a b) (a ≡ b)
 unfolding digest_of
-same_digest_decides a b = by_parts (same_digest a b) (λ e. ap digest_of e) (λ e. ap (λ (d : Digest). d.0) e) (bytes_decides a.0 b.0)
+same_digest_decides a b = by_parts (is_digest a b) (λ e. ap digest_of e) (λ e. ap (λ (d : Digest). d.0) e) (bytes_decides a.0 b.0)
 
 same_ref_decides : (a b : Ref) → Decides (same_ref a b) (a ≡ b)
 same_ref_decides a b = by_parts (same_ref a b)
     (λ e. λ i. record { author = e.0 i; digest = e.1 i })
     (λ e. (ap (λ (r : Ref). r.author) e, ap (λ (r : Ref). r.digest) e))
-    (Decides-and (a.author == b.author) (same_digest a.digest b.digest) (Decides-eqb a.author b.author) (same_digest_decides a.digest b.digest))
+    (Decides-and (a.author == b.author) (is_digest a.digest b.digest) (Decides-eqb a.author b.author) (same_digest_decides a.digest b.digest))
 
 pub same_block_decides : (a b : Block) → Decides (same_block a b) (a ≡ b)
 same_block_decides a b = by_parts (same_block a b)
@@ -71,11 +69,8 @@ same_certificate_decides a b = by_parts (same_certificate a b)
     (Decides-eqb a.author b.author))
     (pointwise_decides same_seal_decides a.votes b.votes))
 
-abbrev pub same_slot : Slot → Slot → Bool
-same_slot a b = (a.0 == b.0) && (a.1 == b.1)
-
-pub same_slot_decides : (a b : Slot) → Decides (same_slot a b) (a ≡ b)
-same_slot_decides a b = by_parts (same_slot a b) (λ e. λ i. (e.0 i, e.1 i)) (λ e. (ap (λ (s : Slot). s.0) e, ap (λ (s : Slot). s.1) e))
+pub same_slot_decides : (a b : Slot) → Decides (is_slot a b) (a ≡ b)
+same_slot_decides a b = by_parts (is_slot a b) (λ e. λ i. (e.0 i, e.1 i)) (λ e. (ap (λ (s : Slot). s.0) e, ap (λ (s : Slot). s.1) e))
     (Decides-and (a.0 == b.0) _ (Decides-eqb a.0 b.0) (Decides-eqb a.1 b.1))
 
 -- ---- ordered maps, seen as finite maps
@@ -96,13 +91,13 @@ module _ {K X : Type 0} {R : K → K → Ordering} (o : IsTotalOrder R) (exact :
 
 -- the result of `==` for the entries of each map of a store
 abbrev pub same_blocks : List (Digest × Block) → List (Digest × Block) → Bool
-same_blocks = pointwise (λ p q. same_digest p.0 q.0 && same_block p.1 q.1)
+same_blocks = pointwise (λ p q. is_digest p.0 q.0 && same_block p.1 q.1)
 
 abbrev pub same_certificates : List (Digest × Certificate) → List (Digest × Certificate) → Bool
-same_certificates = pointwise (λ p q. same_digest p.0 q.0 && same_certificate p.1 q.1)
+same_certificates = pointwise (λ p q. is_digest p.0 q.0 && same_certificate p.1 q.1)
 
 abbrev pub same_slots : List (Slot × Digest) → List (Slot × Digest) → Bool
-same_slots = pointwise (λ p q. same_slot p.0 q.0 && same_digest p.1 q.1)
+same_slots = pointwise (λ p q. is_slot p.0 q.0 && is_digest p.1 q.1)
 
 -- a state with three empty maps and garbage round 0 is the opening state
 pub nothing : (s : State) → s.floor ≡ 0 → len s.blocks ≡ 0 → len s.certificates ≡ 0 → len s.firsts ≡ 0 → s ≡ opening

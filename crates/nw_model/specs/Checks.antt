@@ -45,9 +45,13 @@ pub record IsWellFormedWith (accepts : Meaning) (members : List Member) (b : Blo
 abbrev pub IsWellFormed : Meaning → List Member → Block → Type 0
 IsWellFormed accepts members b = (signature : Signature) × IsWellFormedWith accepts members b signature
 
+-- the seal has its signer's signature of the text
+abbrev pub IsSealFor : Meaning → List Member → List ℕ → Seal → Type 0
+IsSealFor accepts members text seal = IsSignedBy accepts members seal.signer text seal.signature
+
 -- the seal is its signer's vote for the certificate's digest, round and author
 abbrev pub IsSealOf : Meaning → List Member → Certificate → Seal → Type 0
-IsSealOf accepts members c seal = IsSignedBy accepts members seal.signer (text_of_vote (certificate_subject c)) seal.signature
+IsSealOf accepts members c seal = IsSealFor accepts members (text_of_vote (certificate_subject c)) seal
 
 -- the certificate is valid
 pub record IsValid (accepts : Meaning) (members : List Member) (c : Certificate) : Type 0 where

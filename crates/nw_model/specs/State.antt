@@ -3,6 +3,7 @@ use Rattle.std.specs.Prelude.{ℕ, List, refl}
 use Rattle.std.specs.Coded.{Coded, code_by, coded×, coded_ℕ, coded_list}
 use Rattle.std.specs.FinMap as map
 use Rattle.std.specs.FinMap.{FinMap, empty}
+use Rattle.nw_digest.specs.Codes.{coded_digest}
 use Rattle.nw_digest.specs.Order.{digest_cmp, Slot, slot_cmp}
 use Rattle.nw_digest.specs.declared.digest.Digest.{Digest}
 use Rattle.nw_codec.specs.declared.block.Ref.{Ref}
@@ -37,10 +38,6 @@ certificate_slot c = (c.round, c.author)
 -- the slot of a subject
 abbrev pub subject_slot : Subject → Slot
 subject_slot q = (q.round, q.author)
-
--- the code of a digest: digests with equal codes are equal
-abbrev pub coded_digest : Coded Digest
-coded_digest = code_by (List ℕ) (coded_list coded_ℕ) (λ d. d.0) (λ b. record { 0 = b }) (λ _. refl)
 
 -- the code of a reference
 abbrev pub coded_ref : Coded Ref

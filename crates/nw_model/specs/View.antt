@@ -6,8 +6,9 @@ use Rattle.std.specs.FinMap.{FinMap, get, insert}
 use Rattle.nw_digest.specs.declared.digest.Digest.{Digest}
 use Rattle.nw_codec.specs.declared.block.Ref.{Ref}
 use Rattle.nw_codec.specs.declared.block.Block.{Block}
+use Rattle.nw_digest.specs.Codes.{coded_digest}
 use Rattle.nw_digest.specs.Order.{digest_cmp}
-use Rattle.nw_model.specs.State.{State, block_slot, coded_digest, coded_block}
+use Rattle.nw_model.specs.State.{State, block_slot, coded_block}
 use Rattle.nw_model.specs.Paths.{IsComplete, Lists}
 
 -- a view: frozen blocks and a floor

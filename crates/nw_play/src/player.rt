@@ -86,10 +86,8 @@ impl<L: Home> Player<L> {
             Request::Session(id) => return self.select_session(rt, alloc, *id),
             Request::Compact => return self.compact(rt, alloc),
             Request::Certificate(name) => {
-                (
-                    Some(*name),
-                    Command::Certificate(bindings.digest_of(*name)?),
-                )
+                let digest = bindings.digest_of(*name)?;
+                (Some(*name), Command::Certificate(digest))
             }
             Request::Read(name) => (Some(*name), Command::Read(bindings.digest_of(*name)?)),
             Request::MissingOf(name) => {

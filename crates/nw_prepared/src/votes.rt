@@ -1,7 +1,8 @@
 //! Verifies votes together: one inversion serves the points of several votes.
 ghost use Rattle.std.specs.Prelude.{◌≡◌, if◌then◌else◌, Some, MatchOption, All, take};
 ghost use Rattle.nw_codec.specs.Same.{same_bytes};
-ghost use Rattle.nw_check.specs.Seals.{IsSealFor, IsFirstBad};
+ghost use Rattle.nw_model.specs.Checks.{IsSealFor};
+ghost use Rattle.nw_check.specs.Seals.{IsFirstBad};
 ghost use Rattle.nw_curve.specs.Coding.{encoded};
 ghost use Rattle.nw_curve.specs.Inverse.{IsInverse, HasInverse};
 ghost use Rattle.nw_ed25519.specs.Accepts.{accepts};

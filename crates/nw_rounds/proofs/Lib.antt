@@ -1,3 +1,4 @@
 mod AtRound
+mod Authors
 pub mod SlotLemmas
 mod OfKind

@@ -1,10 +1,11 @@
 -- Two maps from slots to digests.
 use Rattle.std.specs.Prelude.{◌≡◌, ◌↔◌, ◌⊎◌, ℕ, ◌<◌, ◌≤◌, List, Some, IsSome, Contains, refl}
-use Rattle.std.specs.Coded.{Coded, code_by, coded×, coded_ℕ, coded_list}
+use Rattle.std.specs.Coded.{Coded, code_by, coded×, coded_ℕ}
 use Rattle.std.specs.List.Sorted.{IsStrictlySortedBy}
 use Rattle.std.specs.Ordering.{nat_cmp}
 use Rattle.std.specs.FinMap as map
 use Rattle.std.specs.FinMap.{FinMap, empty, get}
+use Rattle.nw_digest.specs.Codes.{coded_digest}
 use Rattle.nw_digest.specs.Order.{digest_cmp, Slot, slot_cmp}
 use Rattle.nw_digest.specs.declared.digest.Digest.{Digest}
 
@@ -44,10 +45,6 @@ pub record AreDigestsBetween (t : Tables) (from to : ℕ) (digests : List Digest
 -- the list has each digest of each round, first and certified
 abbrev pub HasAllDigests : Tables → List Digest → Type 0
 HasAllDigests t digests = (round : ℕ) (d : Digest) → IsDigestAt t round d → Contains digests d
-
--- the code of a digest: digests with equal codes are equal
-abbrev pub coded_digest : Coded Digest
-coded_digest = code_by (List ℕ) (coded_list coded_ℕ) (λ d. d.0) (λ b. record { 0 = b }) (λ _. refl)
 
 -- the code of these digests: if the codes are equal, so are the digests
 abbrev pub coded_tables : Coded Tables

@@ -61,6 +61,11 @@ unavailable_unseen refusals.Ended is = tt
 unavailable_unseen refusals.TooMany is = elim is [ ]
 unavailable_unseen (refusals.NoStep _) is = elim is [ ]
 
+-- a refusal for this cause
+pub of_cause : {A : Type 0} (P : Refusal → Type 0) (cause : Refusal) (r : Result A Refusal) → P cause → IfErr r (λ why. why ≡ cause) → IfErr r P
+of_cause P cause (Ok a) holds is = tt
+of_cause P cause (Err why) holds is = subst P (sym is) holds
+
 pub refused_of : {A : Type 0} (accepts : Meaning) (first : Story) (j : Journal) (under : Option (List Member)) (r : Result A Refusal) → IfErr r IsUnavailable → IfErr r (IsRefused accepts (origin_of first) j under)
 refused_of accepts first j under (Ok a) is = tt
 refused_of accepts first j under (Err why) is = unavailable_refused accepts first j under why is

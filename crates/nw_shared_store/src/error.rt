@@ -1,5 +1,7 @@
 //! Why a shared store refuses a call.
 use nw_book::NoStep;
+use nw_digest::NoMemory;
+use std::alloc::AllocError;
 use thiserror::Error;
 
 /// Why a call of a shared store is refused. A refusal changes nothing.
@@ -17,4 +19,28 @@ pub enum Refusal {
     /// The call takes no step. It is never out of turn.
     #[error("{0}")]
     NoStep(NoStep),
+}
+
+impl From<NoMemory> for Refusal {
+    ghost use Rattle.std.specs.Prelude.{◌≡◌};
+    ghost use Rattle.nw_book.specs.declared.error.NoStep.TheVariants as causes;
+    ghost use Rattle.nw_shared_store.specs.declared.error.Refusal.TheVariants as refusals;
+
+    ghost from_gives = { λ _ e. e ≡ refusals.NoStep causes.NoMemory };
+
+    fn from(_error: NoMemory) -> Refusal {
+        Refusal::NoStep(NoStep::NoMemory)
+    }
+}
+
+impl From<AllocError> for Refusal {
+    ghost use Rattle.std.specs.Prelude.{◌≡◌};
+    ghost use Rattle.nw_book.specs.declared.error.NoStep.TheVariants as causes;
+    ghost use Rattle.nw_shared_store.specs.declared.error.Refusal.TheVariants as refusals;
+
+    ghost from_gives = { λ _ e. e ≡ refusals.NoStep causes.NoMemory };
+
+    fn from(_error: AllocError) -> Refusal {
+        Refusal::NoStep(NoStep::NoMemory)
+    }
 }

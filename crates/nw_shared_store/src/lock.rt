@@ -1,6 +1,6 @@
 //! The lock: taking it, and giving it back. No function here waits.
 ghost use Rattle.std.specs.Prelude.{◌≡◌, ◌+◌, ◌<◌, ◌∷◌, [], Some, true, ⊤, All};
-ghost use Rattle.std.specs.Prelude.{IsTrue, IsFalse, IfErr, OnOk, OnErr};
+ghost use Rattle.std.specs.Prelude.{IfErr, OnOk, OnErr};
 ghost use Rattle.nw_model.specs.declared.event.Event.{Event};
 ghost use Rattle.nw_history.specs.Story.{with_event};
 ghost use Rattle.nw_shared_store.specs.Held.{Current};
@@ -22,14 +22,21 @@ pub(crate) fn new_seat<S: Scheme>(lock: &Lock<S>) -> Seat<S>
 }
 
 /// One attempt to take the lock.
-pub(crate) fn try_take<S: Scheme>(lock: &Lock<S>, seat: &mut Seat<S>) -> bool
+///
+/// `Busy`: another thread has the lock.
+pub(crate) fn try_take<S: Scheme>(lock: &Lock<S>, seat: &mut Seat<S>) -> Result<(), Refusal>
     requires lock { IsSeatAt lock.now.shared.table_id seat.old.table_id }
     requires out { seat.old.me.1 ≡ [] }
     ensures at { seat.new.table_id ≡ seat.old.table_id }
-    ensures got { IsTrue result → HasLock seat.old.me.0 seat.new.me (λ now. Knows now seat.old.me.0) }
-    ensures missed { IsFalse result → seat.new.me ≡ seat.old.me }
+    ensures got { OnOk result
+        (HasLock seat.old.me.0 seat.new.me (λ now. Knows now seat.old.me.0)) }
+    ensures busy { IfErr result (λ why. why ≡ Refusal.Busy) }
+    ensures missed { OnErr result (seat.new.me ≡ seat.old.me) }
 {
-    lock.shared.compare_exchange::<Acquire>(seat, 0, 0, 1) == 0
+    if lock.shared.compare_exchange::<Acquire>(seat, 0, 0, 1) != 0 {
+        return Err(Refusal::Busy);
+    }
+    Ok(())
 }
 
 /// One attempt to take the lock for a session of this run.
@@ -49,9 +56,7 @@ pub(crate) fn take_in<S: Scheme>(
     ensures refused { IfErr result IsUnavailable }
     ensures missed { OnErr result (seat.new.me ≡ seat.old.me) }
 {
-    if !try_take(lock, seat) {
-        return Err(Refusal::Busy);
-    }
+    try_take(lock, seat)?;
     if run_at(lock, seat) != run {
         give_back(lock, seat);
         return Err(Refusal::Ended);

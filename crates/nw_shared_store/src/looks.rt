@@ -8,7 +8,7 @@ ghost use Rattle.nw_shared_store.specs.Session.{HasSeen, IsSameSession, IsUnseen
 use crate::lock::{end_reading, give_back, take_in};
 use crate::work::{look_at, look_round_at};
 use crate::{Refusal, SharedSession};
-use nw_book::{NoStep, Round};
+use nw_book::Round;
 use nw_model::Look;
 use nw_sig::Scheme;
 use std::alloc::Global;
@@ -45,9 +45,9 @@ impl<S: Scheme> SharedSession<S> {
         take_in(&self.lock, &mut self.seat, self.run)?;
         let looks = match look_round_at(&self.lock, &mut self.seat, alloc, round) {
             Ok(looks) => looks,
-            Err(_) => {
+            Err(why) => {
                 give_back(&self.lock, &mut self.seat);
-                return Err(Refusal::NoStep(NoStep::NoMemory));
+                return Err(Refusal::from(why));
             }
         };
         end_reading(&self.lock, &mut self.seat);

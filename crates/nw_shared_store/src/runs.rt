@@ -5,7 +5,7 @@ ghost use Rattle.nw_shared_store.specs.Session.{IsPassing, IsRenewed, IsRestarte
 use crate::lock::{end_reading, give_back, join, take_in, try_take};
 use crate::work::{restart_at, run_at};
 use crate::{Refusal, SharedSession};
-use nw_book::{Front, NoStep};
+use nw_book::Front;
 use nw_sig::Scheme;
 use std::alloc::Global;
 
@@ -29,9 +29,9 @@ impl<S: Scheme> SharedSession<S> {
         take_in(&self.lock, &mut self.seat, self.run)?;
         let (last, next) = match restart_at(&self.lock, &mut self.seat, alloc) {
             Ok(ended) => ended,
-            Err(_) => {
+            Err(why) => {
                 give_back(&self.lock, &mut self.seat);
-                return Err(Refusal::NoStep(NoStep::NoMemory));
+                return Err(Refusal::from(why));
             }
         };
         join(&self.lock, &mut self.seat);
@@ -48,9 +48,7 @@ impl<S: Scheme> SharedSession<S> {
         ensures refused { IfErr result IsPassing }
         ensures unchanged { OnErr result (self.new ≡ self.old) }
     {
-        if !try_take(&self.lock, &mut self.seat) {
-            return Err(Refusal::Busy);
-        }
+        try_take(&self.lock, &mut self.seat)?;
         let present = run_at(&self.lock, &mut self.seat);
         if present == self.run {
             end_reading(&self.lock, &mut self.seat);

@@ -14,7 +14,7 @@ use crate::Refusal;
 use crate::lock::{end_call, end_reading, give_back, take_in};
 use crate::rule::{Lock, Seat};
 use crate::work::{call_at, history_at, open_at};
-use nw_book::{Command, Done, Front, NoStep, Ticket};
+use nw_book::{Command, Done, Front, Ticket};
 use nw_digest::Digest;
 use nw_sig::Scheme;
 use std::alloc::Global;
@@ -158,9 +158,9 @@ impl<S: Scheme> SharedSession<S> {
         take_in(&self.lock, &mut self.seat, self.run)?;
         let now = match history_at(&self.lock, &mut self.seat) {
             Ok(now) => now,
-            Err(_) => {
+            Err(why) => {
                 give_back(&self.lock, &mut self.seat);
-                return Err(Refusal::NoStep(NoStep::NoMemory));
+                return Err(Refusal::from(why));
             }
         };
         end_reading(&self.lock, &mut self.seat);

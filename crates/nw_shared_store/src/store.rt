@@ -11,7 +11,7 @@ use crate::lock::{end_enrolment, give_back, new_seat, try_take};
 use crate::rule::{Lock, Seat};
 use crate::work::{compact_at, enrol_at, history_at};
 use crate::{Refusal, SharedSession};
-use nw_book::{Book, BookError, Front, Limits, NoStep};
+use nw_book::{Book, BookError, Front, Limits};
 use nw_committee::Committee;
 use nw_digest::{NoMemory, Shared};
 use nw_sig::Scheme;
@@ -105,9 +105,7 @@ impl<S: Scheme> SharedStore<S> {
     pub fn session(&self) -> Result<SharedSession<S>, Refusal>
         ensures { IfOk result (IsSessionOf self.now) }
     {
-        let Ok(lock) = Arc::try_clone(&self.lock) else {
-            return Err(Refusal::NoStep(NoStep::NoMemory));
-        };
+        let lock = Arc::try_clone(&self.lock)?;
         let (seat, run, id) = enrol(&lock)?;
         Ok(SharedSession {
             lock,
@@ -125,15 +123,11 @@ impl<S: Scheme> SharedStore<S> {
         ensures refused { IfErr result IsPassing }
     {
         let mut seat = new_seat(&self.lock);
-        if !try_take(&self.lock, &mut seat) {
-            return Err(Refusal::Busy);
-        }
+        try_take(&self.lock, &mut seat)?;
         let found = history_at(&self.lock, &mut seat);
         give_back(&self.lock, &mut seat);
-        match found {
-            Ok((history, _)) => Ok(history),
-            Err(_) => Err(Refusal::NoStep(NoStep::NoMemory)),
-        }
+        let (history, _) = found?;
+        Ok(history)
     }
 
     /// Freezes all complete blocks as one generation, which later tickets share. Collected blocks are not part of it. This is not a call:
@@ -144,15 +138,10 @@ impl<S: Scheme> SharedStore<S> {
         ensures { IfErr result IsPassing }
     {
         let mut seat = new_seat(&self.lock);
-        if !try_take(&self.lock, &mut seat) {
-            return Err(Refusal::Busy);
-        }
+        try_take(&self.lock, &mut seat)?;
         let done = compact_at(&self.lock, &mut seat, alloc);
         give_back(&self.lock, &mut seat);
-        match done {
-            Ok(()) => Ok(()),
-            Err(_) => Err(Refusal::NoStep(NoStep::NoMemory)),
-        }
+        Ok(done?)
     }
 }
 
@@ -166,9 +155,7 @@ fn enrol<S: Scheme>(lock: &Lock<S>) -> Result<(Seat<S>, u64, u16), Refusal>
         (record { lock = lock.now.shared.table_id; run = made.0.me.0.run; first = made.0.me.0.first; journal = made.0.me.0.journal })) }
 {
     let mut seat = new_seat(lock);
-    if !try_take(lock, &mut seat) {
-        return Err(Refusal::Busy);
-    }
+    try_take(lock, &mut seat)?;
     match enrol_at(lock, &mut seat) {
         Some((run, id)) => {
             end_enrolment(lock, &mut seat);

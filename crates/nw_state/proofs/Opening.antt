@@ -3,7 +3,6 @@ use Rattle.std.proofs.Common.{◌≡◌, [], Some, sym, ◌∙◌}
 use Rattle.std.proofs.lemmas.Option.{none-some}
 use Rattle.std.specs.List.{IsDistinct}
 use Rattle.std.specs.Ordering.{eq_by_cmp}
-use Rattle.std.specs.List.Sorted.{IsStrictlySortedBy}
 use Rattle.std.specs.FinMap.{get, from_entries, get-empty}
 use Rattle.nw_digest.specs.declared.digest.Digest.{Digest}
 use Rattle.nw_codec.specs.declared.block.Block.{Block}
@@ -11,10 +10,6 @@ use Rattle.nw_rounds.specs.Slots.{no_digests}
 use Rattle.nw_digest.specs.Order.{digest_cmp, Slot, slot_cmp}
 use Rattle.nw_model.specs.State.{block_slot}
 use Rattle.nw_state.specs.StateTables.{IsListed}
-
-pub ordered_none : IsStrictlySortedBy digest_cmp []
-unfolding IsStrictlySortedBy
-ordered_none = tt
 
 pub none_once : IsDistinct (eq_by_cmp digest_cmp) []
 unfolding IsDistinct

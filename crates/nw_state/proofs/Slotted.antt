@@ -13,16 +13,17 @@ use Rattle.nw_rounds.specs.Slots.{AreAuthorsAt, Tables}
 use Rattle.nw_digest.specs.Order.{Slot}
 use Rattle.nw_digest.proofs.Found.{which, is_there}
 use Rattle.nw_model.specs.State.{State, block_slot}
+use Rattle.nw_model.specs.Step.{is_digest}
 use Rattle.nw_model.specs.Look.{HasDigest}
 use Rattle.nw_model.specs.Missing.{ListsExactly}
 use Rattle.nw_model.proofs.Kept.{index_answers}
-use Rattle.nw_model.proofs.Sames.{same_digest, same_digest_decides}
+use Rattle.nw_model.proofs.Sames.{same_digest_decides}
 use Rattle.nw_state.specs.StateTables.{AreStateTables, state_of}
 use Rattle.nw_state.specs.Standing.{IsMet}
 use Rattle.nw_state.proofs.HeldRaised.{certified_slot}
 
 -- a found digest is compared with another
-pub named_decides : (found : Option Digest) (d : Digest) → Decides (option_eq same_digest found (Some d)) (found ≡ Some d)
+pub named_decides : (found : Option Digest) (d : Digest) → Decides (option_eq is_digest found (Some d)) (found ≡ Some d)
 named_decides None d = (λ e. absurd cc, λ e. absurd cc)
 named_decides (Some x) d = (λ e. ap Some ((same_digest_decides x d).0 e), λ e. (same_digest_decides x d).1 cc)
 

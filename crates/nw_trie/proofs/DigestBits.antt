@@ -1,15 +1,18 @@
 -- The order of digests by their bits.
-use Rattle.std.proofs.Common.{Fits, w8, ◌≡◌, ◌∙◌, ℕ, ◌+◌, ◌-◌, ◌/◌, ◌%◌, ◌<◌, true, false, List, [], ◌∷◌, suc, refl, sym, ap, arith, inl, inr, get_or, length}
+use Rattle.std.proofs.Common.{◌≡◌, ◌∙◌, ℕ, ◌+◌, ◌-◌, ◌/◌, ◌%◌, ◌<◌, true, false, List, [], ◌∷◌, refl, sym, ap, arith, inl, inr, get_or, length}
 use Rattle.std.specs.declared.cmp.Ordering.TheVariants.{Less, Equal, Greater}
 use Rattle.std.specs.Ordering.{nat_cmp, ordering_then, ordering_reverse}
+use Rattle.std.specs.List.{AllByRecursion}
 use Rattle.std.specs.Cmp.{nat_cmp_is}
 use Rattle.std.specs.FinMap.{slice_cmp-IsAntisymmetric, nat_cmp-IsAntisymmetric}
 use Rattle.std.specs.Cmp.Lexicographic.{slice_cmp, nat_list_cmp_total}
 use Rattle.std.proofs.lemmas.Bool.{cases_lt}
 use Rattle.std.proofs.lemmas.List.{ext_get_or}
+use Rattle.std.proofs.lemmas.List.Elements.{recursion_from_All}
 use Rattle.nw_digest.specs.declared.digest.Digest.{Digest}
 use Rattle.nw_digest.specs.Order.{digest_cmp}
-use Rattle.nw_trie.specs.Bits.{AgreeBelow, AreBytes, bit_of, byte_bit, list_bit}
+use Rattle.nw_digest.specs.Bytes.{AreBytes}
+use Rattle.nw_trie.specs.Bits.{AgreeBelow, bit_of, byte_bit, list_bit}
 use Rattle.nw_trie.proofs.ByteBits.{same_byte, smaller_byte}
 
 later_byte : (x : ℕ) (xs : List ℕ) (n : ℕ) → get_or (x ∷ xs) (n + 1) 0 ≡ get_or xs n 0
@@ -33,7 +36,7 @@ no_bits : (n : ℕ) → list_bit [] n ≡ false
 no_bits n = rw Rattle.std.proofs.Math.Nat.zero-div refl
 
 -- of two lists of bytes, the one with an unset bit at the first difference comes first
-pub bits_order : (xs ys : List ℕ) (i : ℕ) → AreBytes xs → AreBytes ys → ((j : ℕ) → j < i → list_bit xs j ≡ list_bit ys j) → list_bit xs i ≡ false → list_bit ys i ≡ true → slice_cmp nat_cmp xs ys ≡ Less
+bits_order : (xs ys : List ℕ) (i : ℕ) → AllByRecursion (λ b. b < 256) xs → AllByRecursion (λ b. b < 256) ys → ((j : ℕ) → j < i → list_bit xs j ≡ list_bit ys j) → list_bit xs i ≡ false → list_bit ys i ≡ true → slice_cmp nat_cmp xs ys ≡ Less
 bits_order [] [] i hx hy same unset set = let e : false ≡ true = sym unset ∙ set in cc
 bits_order [] (y ∷ ys) i hx hy same unset set = refl
 bits_order (x ∷ xs) [] i hx hy same unset set = let e : false ≡ true = sym (no_bits i) ∙ set in cc
@@ -54,11 +57,11 @@ bits_order (x ∷ xs) (y ∷ ys) i hx hy same unset set =
 
 -- the same for digests
 pub digest_less : (a b : Digest) (i : ℕ) → AreBytes a.0 → AreBytes b.0 → AgreeBelow i a b → bit_of a i ≡ false → bit_of b i ≡ true → digest_cmp a b ≡ Less
-digest_less a b i ha hb same unset set = bits_order a.0 b.0 i ha hb same unset set
+digest_less a b i ha hb same unset set = bits_order a.0 b.0 i (recursion_from_All (λ b. b < 256) a.0 ha) (recursion_from_All (λ b. b < 256) b.0 hb) same unset set
 
 pub digest_greater : (a b : Digest) (i : ℕ) → AreBytes a.0 → AreBytes b.0 → AgreeBelow i a b → bit_of a i ≡ true → bit_of b i ≡ false → digest_cmp a b ≡ Greater
 digest_greater a b i ha hb same set unset =
-    nat_list_cmp_total.antisymm a.0 b.0 ∙ ap ordering_reverse (bits_order b.0 a.0 i hb ha (λ j h. sym (same j h)) unset set)
+    nat_list_cmp_total.antisymm a.0 b.0 ∙ ap ordering_reverse (bits_order b.0 a.0 i (recursion_from_All (λ b. b < 256) b.0 hb) (recursion_from_All (λ b. b < 256) a.0 ha) (λ j h. sym (same j h)) unset set)
 
 -- digests with the same bytes are equal
 pub digest_of_bytes : (a b : Digest) → a.0 ≡ b.0 → a ≡ b
@@ -75,8 +78,3 @@ same_bits a b e j = ap (λ d. bit_of d j) (one_digest a b e)
 pub same_digest : (a b : Digest) → length a.0 ≡ 32 → length b.0 ≡ 32 → ((k : ℕ) → k < 32 → get_or a.0 k 0 ≡ get_or b.0 k 0) → a ≡ b
 same_digest a b la lb same =
     digest_of_bytes a b (ext_get_or 0 a.0 b.0 (la ∙ sym lb) (λ k h. same k (omega (arith, la))))
-
--- a list consists of bytes if the number at each index fits a byte
-pub bytes_from : (xs : List ℕ) → ((k : ℕ) → Fits w8 (get_or xs k 0)) → AreBytes xs
-bytes_from [] h = tt
-bytes_from (x ∷ xs) h = (omega (arith, h 0), bytes_from xs (λ k. h (suc k)))

@@ -1,23 +1,17 @@
 -- The first bits of a digest, read from its first three bytes.
-use Rattle.std.proofs.Common.{◌≡◌, ◌∙◌, ℕ, zero, suc, ◌+◌, ◌-◌, ◌*◌, ◌/◌, ◌%◌, ◌^◌, ◌<◌, true, false, cond, List, [], ◌∷◌, get_or, refl, sym, ap, arith, inl, inr}
+use Rattle.std.proofs.Common.{◌≡◌, ◌∙◌, ℕ, zero, suc, ◌+◌, ◌-◌, ◌*◌, ◌/◌, ◌%◌, ◌^◌, ◌<◌, true, false, cond, get_or, refl, sym, ap, arith, inl, inr}
 use Rattle.std.specs.Prelude.{◌==◌}
 use Rattle.std.proofs.lemmas.Bool.{eqb-true, eqb-false, cases_lt}
 use Rattle.std.proofs.Math.Nat.{div-div-eq-div-mul, pow-suc}
 use Rattle.std.proofs.lemmas.Nat.{pow-add}
 use lib.Dec.{eqb}
 use Rattle.nw_digest.specs.declared.digest.Digest.{Digest}
-use Rattle.nw_trie.specs.Bits.{AreBytes, bit_of}
+use Rattle.nw_trie.specs.Bits.{bit_of}
 use Rattle.nw_trie.specs.Places.{place_of}
 
 -- the number of the first three bytes
 abbrev pub front : Digest → ℕ
 front d = (get_or d.0 0 0 * 256 + get_or d.0 1 0) * 256 + get_or d.0 2 0
-
--- each number of a list of bytes is below 256
-pub below : (xs : List ℕ) → AreBytes xs → (k : ℕ) → get_or xs k 0 < 256
-below [] bytes k = omega arith
-below (x ∷ xs) bytes zero = bytes.0
-below (x ∷ xs) bytes (suc k) = below xs bytes.1 k
 
 -- a bit of the last byte of a number
 last_byte : (t u b : ℕ) → t < 8 → (u * 256 + b) / 2 ^ t % 2 ≡ b / 2 ^ t % 2

@@ -12,7 +12,8 @@ use Rattle.nw_trie.specs.declared.tree.Link.{Link}
 use Rattle.nw_trie.specs.declared.tree.Link.TheVariants.{Empty, Leaf, Fork}
 use Rattle.nw_trie.specs.declared.tree.Sides.{Sides}
 use Rattle.nw_digest.specs.Order.{digest_cmp}
-use Rattle.nw_trie.specs.Bits.{AgreeBelow, AreBytes, DifferFirst, bit_of}
+use Rattle.nw_digest.specs.Bytes.{AreBytes}
+use Rattle.nw_trie.specs.Bits.{AgreeBelow, DifferFirst, bit_of}
 use Rattle.nw_trie.specs.Entries.{AreEntries, BranchesAt, EachKey, HasKey, IsFork, SomeKey}
 use Rattle.nw_trie.specs.Tree.{entries_of, IsTree, side_of, with_side}
 use Rattle.nw_trie.proofs.Keys.{each_left, each_right, each_more, each_pair, some_side, some_of_each}

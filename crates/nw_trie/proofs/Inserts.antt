@@ -10,7 +10,8 @@ use Rattle.std.specs.BTreeMap.{insert_entry}
 use Rattle.nw_digest.specs.declared.digest.Digest.{Digest}
 use Rattle.nw_digest.specs.Order.{digest_cmp}
 use Rattle.nw_digest.proofs.Maps.{digests_total}
-use Rattle.nw_trie.specs.Bits.{AgreeBelow, AreBytes, bit_of}
+use Rattle.nw_digest.specs.Bytes.{AreBytes}
+use Rattle.nw_trie.specs.Bits.{AgreeBelow, bit_of}
 use Rattle.nw_trie.specs.Entries.{AreEntries, EachKey, IsFork}
 use Rattle.nw_trie.proofs.DigestBits.{digest_less, digest_greater}
 use Rattle.nw_trie.proofs.Keys.{each_left, each_right, each_both, each_more, each_pair, each_insert}

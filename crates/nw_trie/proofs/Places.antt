@@ -8,7 +8,8 @@ use Rattle.std.specs.declared.cmp.Ordering.TheVariants.{Less, Greater}
 use Rattle.nw_digest.specs.declared.digest.Digest.{Digest}
 use Rattle.nw_digest.specs.Order.{digest_cmp}
 use Rattle.nw_digest.proofs.Maps.{digests_total}
-use Rattle.nw_trie.specs.Bits.{AgreeBelow, AreBytes, bit_of}
+use Rattle.nw_digest.specs.Bytes.{AreBytes}
+use Rattle.nw_trie.specs.Bits.{AgreeBelow, bit_of}
 use Rattle.nw_trie.specs.Entries.{EachKey}
 use Rattle.nw_trie.specs.Places.{AreAtPlaces, joined, place_of}
 use Rattle.nw_trie.proofs.DigestBits.{digest_less, one_digest}

@@ -10,7 +10,8 @@ use Rattle.nw_trie.specs.declared.tree.Link.{Link}
 use Rattle.nw_trie.specs.declared.tree.Link.TheVariants.{Empty, Leaf, Fork}
 use Rattle.nw_trie.specs.declared.tree.Sides.{Sides}
 use Rattle.nw_digest.specs.Order.{digest_cmp}
-use Rattle.nw_trie.specs.Bits.{AgreeBelow, AreBytes, DifferFirst, bit_of}
+use Rattle.nw_digest.specs.Bytes.{AreBytes}
+use Rattle.nw_trie.specs.Bits.{AgreeBelow, DifferFirst, bit_of}
 use Rattle.nw_trie.specs.Entries.{AreEntries, BranchesAt, EachKey, IsFork}
 use Rattle.nw_trie.specs.Tree.{entries_of, IsTree}
 use Rattle.nw_trie.proofs.DigestBits.{digest_less, digest_greater, same_bits}

@@ -1,12 +1,7 @@
 -- The bits of a digest. Bit 0 is the highest bit of the first byte.
 use Rattle.std.specs.Prelude.{◌≡◌, ℕ, ◌+◌, ◌-◌, ◌/◌, ◌%◌, ◌^◌, ◌<◌, Bool, ◌==◌, List}
 use Rattle.std.proofs.Common.{get_or}
-use Rattle.std.specs.List.{AllByRecursion}
 use Rattle.nw_digest.specs.declared.digest.Digest.{Digest}
-
--- each number of the list is a byte
-abbrev pub AreBytes : List ℕ → Type 0
-AreBytes xs = AllByRecursion (λ byte. byte < 256) xs
 
 -- whether bit k of a byte is set; bit 0 is the highest
 abbrev pub byte_bit : ℕ → ℕ → Bool

@@ -1,7 +1,8 @@
 -- Entries that are spread over many trees by the first bits of their digests.
 use Rattle.std.specs.Prelude.{◌≡◌, ℕ, zero, suc, ◌+◌, ◌*◌, ◌≤◌, List, [], ◌∷◌, ◌++◌, length, if◌then◌else◌}
 use Rattle.nw_digest.specs.declared.digest.Digest.{Digest}
-use Rattle.nw_trie.specs.Bits.{AreBytes, bit_of}
+use Rattle.nw_digest.specs.Bytes.{AreBytes}
+use Rattle.nw_trie.specs.Bits.{bit_of}
 use Rattle.nw_trie.specs.Entries.{EachKey}
 
 -- the number whose binary digits are the first n bits of the digest

@@ -2,7 +2,8 @@
 ghost use Rattle.std.specs.Prelude.{◌≡◌, ◌<◌, ℕ, length};
 ghost use Rattle.std.specs.Bool.{MatchBool};
 ghost use Rattle.std.specs.Option.{MatchOption};
-ghost use Rattle.nw_trie.specs.Bits.{AreBytes, DifferFirst, bit_of, byte_bit, list_bit};
+ghost use Rattle.nw_digest.specs.Bytes.{AreBytes};
+ghost use Rattle.nw_trie.specs.Bits.{DifferFirst, bit_of, byte_bit, list_bit};
 
 use nw_digest::Digest;
 
@@ -12,20 +13,6 @@ pub(crate) fn is_set(digest: &Digest, bit: u8) -> bool
     ensures bytes { AreBytes digest.now.0 }
 {
     list_is_set(&digest.0, bit)
-}
-
-/// Tells the prover that a digest consists of bytes. It does nothing at run time.
-pub(crate) fn note_bytes(digest: &Digest)
-    ensures { AreBytes digest.now.0 }
-{
-    note_list(&digest.0);
-}
-
-/// Tells the prover that a slice consists of bytes.
-fn note_list(bytes: &[u8])
-    ensures { AreBytes bytes.now }
-{
-    let _ = bytes;
 }
 
 /// Whether this bit of the bytes is set.

@@ -6,12 +6,11 @@ ghost use Rattle.std.specs.Option.{option_copied};
 ghost use Rattle.std.specs.Map.{lookup, remove_entry};
 ghost use Rattle.std.specs.BTreeMap.{insert_entry, is_at};
 ghost use Rattle.nw_digest.specs.Order.{digest_cmp};
-ghost use Rattle.nw_trie.specs.Bits.{AreBytes};
+ghost use Rattle.nw_digest.specs.Bytes.{AreBytes};
 ghost use Rattle.nw_trie.specs.Places.{AreAtPlaces, joined, place_of};
 
-use crate::bits::note_bytes;
 use crate::tree::Tree;
-use nw_digest::{Digest, NoMemory};
+use nw_digest::{Digest, NoMemory, note_bytes};
 use std::alloc::Allocator;
 use std::marker::Model;
 use std::mem;
@@ -222,7 +221,7 @@ fn place(digest: &Digest, bits: u8) -> usize
     ensures place { result ≡ place_of bits digest.now }
     ensures bytes { AreBytes digest.now.0 }
 {
-    note_bytes(digest);
+    note_bytes(&digest.0);
     let bytes = &digest.0;
     let front = (usize::from(bytes[0]) * 256 + usize::from(bytes[1])) * 256 + usize::from(bytes[2]);
     front >> (24 - bits)

@@ -19,8 +19,8 @@ mod halves;
 mod insertion;
 mod removal;
 
-use crate::bits::{first_difference, is_set, note_bytes};
-use nw_digest::Digest;
+use crate::bits::{first_difference, is_set};
+use nw_digest::{Digest, note_bytes};
 use std::alloc::Allocator;
 use std::marker::Model;
 use std::mem;
@@ -91,7 +91,7 @@ impl<V: Drop, A: Allocator> Tree<V, A> {
         ensures leaf { IfOk result (λ leaf. leaf ≡ (digest, value) ∷ []) }
         ensures value_returned { IfErr result (λ refused. refused ≡ value) }
     {
-        note_bytes(&digest);
+        note_bytes(&digest.0);
         let Ok(alloc) = alloc.clone() else {
             return Err(value);
         };

@@ -66,6 +66,27 @@ others_stay s t wanted is w h other = ap (λ u. contains u (w, h)) is ∙ sym (c
     by : (m b : Bool) → b ≡ false → (m && not b) ≡ m
     by m b e = grind arith
 
+-- ---- a parent is taken with all its pairs
+module _ (s t : Pairs) (ks : List Wanted) (wanted : Wanted) (rest : t ≡ without_wanted s wanted) where
+  pub satisfied : (parted t ks).unmet ≡ without_wanted (parted s ks).unmet wanted
+  satisfied = unmet_is t ks _ (λ w h.
+      ap (λ u. contains u (w, h) && is_one ks w) rest ∙ ap (λ b. b && is_one ks w) (sym (contains_without_wanted s wanted w h)) ∙ by (contains s (w, h)) (eq_by_cmp wanted_cmp wanted w) (is_one ks w)
+      ∙ ap (λ b. b && not (eq_by_cmp wanted_cmp wanted w)) (sym (at_unmet s ks w h)) ∙ contains_without_wanted (parted s ks).unmet wanted w h)
+    where
+      by : (m b k : Bool) → ((m && not b) && k) ≡ ((m && k) && not b)
+      by m b k = grind arith
+
+  -- each unmet parent keeps its holders, if the one that is taken is met
+  pub held_satisfied : IsMetForAll (parted s ks) wanted true → HaveHolders s ks → HaveHolders t ks
+  held_satisfied met held w is = (h, by (eq_by_cmp wanted_cmp wanted w) refl)
+    where
+      h : Digest
+      h = (held w is).0
+
+      by : (b : Bool) → eq_by_cmp wanted_cmp wanted w ≡ b → Lacks t h w
+      by true same = absurd (met h (subst (λ (x : Wanted). Lacks (parted s ks).unmet h x) (sym (one_wanted wanted w same)) (at_unmet s ks w h ∙ and_from (contains s (w, h)) (is_one ks w) (held w is).1 is)))
+      by false other = others_stay s t wanted rest w h other ∙ (held w is).1
+
 -- ---- one more pair
 module _ (s t : Pairs) (ks : List Wanted) (wanted : Wanted) (holder : Digest) (added : t ≡ insert s (wanted, holder)) where
   at_insert : (u : Pairs) (w : Wanted) (h : Digest) → contains (insert u (wanted, holder)) (w, h) ≡ ((eq_by_cmp wanted_cmp wanted w && eq_by_cmp digest_cmp h holder) || contains u (w, h))

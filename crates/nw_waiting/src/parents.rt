@@ -1,5 +1,5 @@
 //! The table of missing parents.
-ghost use Rattle.std.specs.Prelude.{◌≡◌, IfOk, OnErr, OnOk, if◌then◌else◌, take};
+ghost use Rattle.std.specs.Prelude.{◌≡◌, IfOk, OnErr, OnOk, if◌then◌else◌, take, true};
 ghost use Rattle.std.specs.BTreeSet.{IsOrdered};
 ghost use Rattle.std.specs.FinSet as set;
 ghost use Rattle.nw_waiting.specs.Pairs.{AreFirst, AreHolders, LacksCount, WantedCount};
@@ -82,13 +82,13 @@ impl<A: Allocator + Copy> MissingParents<A> {
         self.unmet.remove(wanted);
     }
 
-    /// Removes the parent from the table, and returns the holders that were missing it, each once. Allocates nothing.
+    /// Removes a met parent from the table, and returns the holders that were missing it, each once. Allocates nothing.
     pub fn drop_parent(&mut self, wanted: &Wanted) -> Vec<Digest, A>
+        requires { IsMetForAll self.old wanted.now true }
         ensures holders { AreHolders self.old.lacking wanted.now result.items }
         ensures unmet { self.new.unmet ≡ without_wanted self.old.unmet wanted.now }
         ensures lacking { self.new.lacking ≡ without_wanted self.old.lacking wanted.now }
     {
-        let _was_unmet = self.unmet.remove(wanted);
         self.lacking.satisfy(wanted)
     }
 

@@ -1,6 +1,6 @@
 use nw_check::{BlockFault, CertFault, Checked, check_message};
-use nw_codec::DecodeError;
 use nw_committee::Committee;
+use nw_decode::DecodeError;
 use nw_digest::{NoMemory, Round, Shared};
 use nw_sig::DemoScheme;
 use samples::committee;

@@ -12,6 +12,7 @@ mod gathers;
 mod texts;
 mod without;
 mod workers;
+mod written;
 
 /// The slot of most blocks, votes and certificates.
 const SLOT: Slot = (Round::ZERO, 0);

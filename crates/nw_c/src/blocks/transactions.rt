@@ -45,7 +45,8 @@ fn copied(
     ensures done { result ≡ pos 0 → AreCutFrom (take needed.new bytes.new)
         (take (length transactions.now) lengths.new) transactions.now }
     ensures small { (result ≡ pos 0 → ⊥)
-        → (result ≡ SMALL) × NeedMoreThan (length bytes.old) (length lengths.old) transactions.now }
+        → (result ≡ SMALL) × (needed.new ≡ length (flat_map (λ t. t) transactions.now))
+        × NeedMoreThan (length bytes.old) (length lengths.old) transactions.now }
     ensures unchanged { (result ≡ pos 0 → ⊥) → (bytes.new ≡ bytes.old) × (lengths.new ≡ lengths.old) }
 {
     let size = size_of_all(transactions);
@@ -73,7 +74,8 @@ pub extern "C" fn nw_block_transactions(
     ensures closed { result ≡ CLOSED → block.old.held ≡ true → ⊥ }
     ensures other_kind { result ≡ OTHER_KIND → HoldsBlock block.old.value → ⊥ }
     ensures over_limit { result ≡ OVER_LIMIT → ⊥ }
-    ensures small { result ≡ SMALL → HasNoRoom block.old.value (length buffer.old) (length lengths.old) }
+    ensures small { result ≡ SMALL
+        → HasNoRoom block.old.value (length buffer.old) (length lengths.old) needed.new }
     ensures unchanged { (result ≡ pos 0 → ⊥) → (buffer.new ≡ buffer.old) × (lengths.new ≡ lengths.old) }
 {
     if !block.is_open() {

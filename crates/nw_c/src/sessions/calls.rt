@@ -12,8 +12,8 @@ ghost use Rattle.nw_c.specs.Stores.{refusal_code};
 ghost use Rattle.nw_c.specs.declared.codes.TheConstants.{BAD_ROUND, CLOSED, OTHER_KIND};
 
 use super::call;
-use crate::codes::{BAD_ROUND, CLOSED, DONE, OTHER_KIND};
-use crate::content::{Content, is_room};
+use crate::codes::{BAD_ROUND, DONE, OTHER_KIND};
+use crate::content::{Content, code_of_room};
 use crate::handle::{AnswerHandle, Handle, SessionHandle};
 use crate::plain::CDigest;
 use crate::stores::code_of_refusal;
@@ -116,11 +116,9 @@ fn code_of_bad_round(session: &mut Handle, answer: &mut Handle) -> i32
     ensures closed { result ≡ CLOSED → session.old.held ≡ true → answer.old.held ≡ true → ⊥ }
     ensures other_kind { result ≡ OTHER_KIND → HoldsSession session.old.value → HoldsRoom answer.old.value → ⊥ }
 {
-    if !session.is_open() || !answer.is_open() {
-        return CLOSED;
-    }
-    if !is_room(answer.lend()) {
-        return OTHER_KIND;
+    let code = code_of_room(session, answer);
+    if code != DONE {
+        return code;
     }
     match session.lend() {
         Content::Session(_) => BAD_ROUND,
@@ -221,11 +219,9 @@ pub extern "C" fn nw_session_open(
     ensures closed { result ≡ CLOSED → session.old.held ≡ true → answer.old.held ≡ true → ⊥ }
     ensures other_kind { result ≡ OTHER_KIND → HoldsSession session.old.value → HoldsRoom answer.old.value → ⊥ }
 {
-    if !session.is_open() || !answer.is_open() {
-        return CLOSED;
-    }
-    if !is_room(answer.lend()) {
-        return OTHER_KIND;
+    let code = code_of_room(session, answer);
+    if code != DONE {
+        return code;
     }
     let Content::Session(held) = session.lend() else {
         return OTHER_KIND;

@@ -1,5 +1,5 @@
 //! Encodes certificates and votes.
-ghost use Rattle.std.specs.Prelude.{◌≡◌, ◌≤◌, ◌+◌, ◌*◌, ◌++◌, [], ◌∷◌, ℕ, List, length, take, IfOk, OnOk, All};
+ghost use Rattle.std.specs.Prelude.{◌≡◌, ◌≤◌, ◌+◌, ◌*◌, ◌++◌, [], ◌∷◌, ℕ, List, length, take, drop, IfOk, OnOk, All};
 ghost use Rattle.std.specs.List.{flat_map};
 ghost use Rattle.nw_codec.specs.Grammar.{message, subject_bytes, seal_bytes};
 ghost use Rattle.nw_codec.specs.Fits.{CertificateFits, certificate_size, vote_size};
@@ -15,8 +15,8 @@ use std::alloc::Global;
 /// Writes the tag and the subject.
 fn put_subject<S: Sink>(sink: &mut S, tag: u8, subject: &Subject) -> Result<(), S::Refusal>
     requires { 41 ≤ S.room sink.old }
-    ensures text { OnOk result (S.holds sink.old []
-        → S.holds sink.new ((tag ∷ []) ++ subject_bytes subject.now)) }
+    ensures text { OnOk result ((before : List ℕ) → S.holds sink.old before []
+        → S.holds sink.new before ((tag ∷ []) ++ subject_bytes subject.now)) }
     ensures room { OnOk result (S.room sink.old ≤ S.room sink.new + 41) }
     ensures place { S.place sink.new ≡ S.place sink.old }
     ensures typed { OnOk result (IsSubject subject.now) }
@@ -27,8 +27,8 @@ fn put_subject<S: Sink>(sink: &mut S, tag: u8, subject: &Subject) -> Result<(), 
 
 fn put_seals<S: Sink>(sink: &mut S, seals: &[Seal]) -> Result<(), S::Refusal>
     requires { 66 * length seals.now ≤ S.room sink.old }
-    ensures text { OnOk result ((text : List ℕ) → S.holds sink.old text
-        → S.holds sink.new (text ++ flat_map seal_bytes seals.now)) }
+    ensures text { OnOk result ((before text : List ℕ) → S.holds sink.old before text
+        → S.holds sink.new before (text ++ flat_map seal_bytes seals.now)) }
     ensures place { S.place sink.new ≡ S.place sink.old }
     ensures typed { OnOk result (All IsSeal seals.now) }
 {
@@ -42,8 +42,8 @@ fn put_seals<S: Sink>(sink: &mut S, seals: &[Seal]) -> Result<(), S::Refusal>
 fn put_certificate<S: Sink>(sink: &mut S, certificate: &Certificate) -> Result<(), S::Refusal>
     requires fits { CertificateFits certificate.now }
     requires room { certificate_size certificate.now ≤ S.room sink.old }
-    ensures text { OnOk result (S.holds sink.old []
-        → S.holds sink.new (message (Message.Certificate certificate.now))) }
+    ensures text { OnOk result ((before : List ℕ) → S.holds sink.old before []
+        → S.holds sink.new before (message (Message.Certificate certificate.now))) }
     ensures place { S.place sink.new ≡ S.place sink.old }
     ensures typed { OnOk result (IsCertificate certificate.now) }
 {
@@ -55,8 +55,8 @@ fn put_certificate<S: Sink>(sink: &mut S, certificate: &Certificate) -> Result<(
 
 fn put_vote<S: Sink>(sink: &mut S, vote: &Vote) -> Result<(), S::Refusal>
     requires { vote_size ≤ S.room sink.old }
-    ensures text { OnOk result (S.holds sink.old []
-        → S.holds sink.new (message (Message.Vote vote.now))) }
+    ensures text { OnOk result ((before : List ℕ) → S.holds sink.old before []
+        → S.holds sink.new before (message (Message.Vote vote.now))) }
     ensures place { S.place sink.new ≡ S.place sink.old }
     ensures typed { OnOk result (IsVote vote.now) }
 {
@@ -76,12 +76,13 @@ impl Certificate {
         Ok(text)
     }
 
-    /// Writes the text of its message to the front of the buffer. The certificate must fit (`Certificate::fits`), and the buffer
-    /// must have at least `Certificate::message_size` bytes. It makes no allocation.
+    /// Writes the text of its message to the front of the buffer, and leaves the rest as it was. The certificate must fit
+    /// (`Certificate::fits`), and the buffer must have at least `Certificate::message_size` bytes. It makes no allocation.
     pub fn write_message(&self, buffer: &mut [u8])
         requires fits { CertificateFits self.now }
         requires room { certificate_size self.now ≤ length buffer.old }
-        ensures { Spells (take (certificate_size self.now) buffer.new) (Message.Certificate self.now) }
+        ensures text { Spells (take (certificate_size self.now) buffer.new) (Message.Certificate self.now) }
+        ensures rest { drop (certificate_size self.now) buffer.new ≡ drop (certificate_size self.now) buffer.old }
     {
         let mut front = Front { buffer, filled: 0 };
         let Ok(()) = put_certificate(&mut front, self);
@@ -98,11 +99,12 @@ impl Vote {
         Ok(text)
     }
 
-    /// Writes the text of its message to the front of the buffer, which must have at least `Vote::message_size` bytes. It makes
-    /// no allocation.
+    /// Writes the text of its message to the front of the buffer, and leaves the rest as it was. The buffer must have at least
+    /// `Vote::message_size` bytes. It makes no allocation.
     pub fn write_message(&self, buffer: &mut [u8])
         requires { vote_size ≤ length buffer.old }
-        ensures { Spells (take vote_size buffer.new) (Message.Vote self.now) }
+        ensures text { Spells (take vote_size buffer.new) (Message.Vote self.now) }
+        ensures rest { drop vote_size buffer.new ≡ drop vote_size buffer.old }
     {
         let mut front = Front { buffer, filled: 0 };
         let Ok(()) = put_vote(&mut front, self);

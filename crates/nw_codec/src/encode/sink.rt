@@ -1,5 +1,5 @@
 //! Destinations of encoded bytes: a `Vec`, a hash, and a borrowed buffer.
-ghost use Rattle.std.specs.Prelude.{◌≡◌, ◌++◌, ◌≤◌, ◌+◌, ℕ, List, length, take, OnOk};
+ghost use Rattle.std.specs.Prelude.{◌≡◌, ◌++◌, ◌≤◌, ◌+◌, ℕ, List, length, take, drop, OnOk};
 ghost use Rattle.nw_codec.specs.Typed.{AreBytes};
 
 use sha2::Sha256;
@@ -11,8 +11,8 @@ pub(super) trait Sink {
     /// Why it did not take a piece.
     type Refusal: Drop;
 
-    // The pieces taken so far make this text.
-    ghost holds: { Self → List ℕ → Type 0 };
+    // The pieces taken so far make this text. A buffer was the list before, and is it still behind them.
+    ghost holds: { Self → List ℕ → List ℕ → Type 0 };
 
     // A piece must not be longer. Only a buffer runs out of room.
     ghost room: { Self → ℕ };
@@ -22,8 +22,8 @@ pub(super) trait Sink {
 
     fn put(&mut self, piece: &[u8]) -> Result<(), Self::Refusal>
         requires { length piece.now ≤ room self.old }
-        ensures text { OnOk result
-            ((text : List ℕ) → holds self.old text → holds self.new (text ++ piece.now)) }
+        ensures text { OnOk result ((before text : List ℕ) → holds self.old before text
+            → holds self.new before (text ++ piece.now)) }
         ensures room { room self.old ≤ room self.new + length piece.now }
         ensures place { place self.new ≡ place self.old }
         ensures bytes { AreBytes piece.now };
@@ -34,7 +34,7 @@ impl Sink for Vec<u8> {
 
     ghost use Rattle.std.specs.Prelude.{◌^◌};
 
-    ghost holds = { λ v text. v.items ≡ text };
+    ghost holds = { λ v _ text. v.items ≡ text };
 
     ghost room = { λ _. 2 ^ 63 };
 
@@ -51,7 +51,7 @@ impl Sink for Sha256 {
     ghost use Rattle.std.specs.Prelude.{◌^◌};
     ghost use Rattle.sha2.specs.Hashers.{Holds256};
 
-    ghost holds = { λ s text. Holds256 s text };
+    ghost holds = { λ s _ text. Holds256 s text };
 
     ghost room = { λ _. 2 ^ 63 };
 
@@ -76,7 +76,8 @@ impl Sink for Front<'_> {
 
     ghost use Rattle.std.specs.Prelude.{◌-◌};
 
-    ghost holds = { λ s text. take s.filled s.buffer.now ≡ text };
+    ghost holds = { λ s before text. (take s.filled s.buffer.now ≡ text)
+        × (drop s.filled s.buffer.now ≡ drop s.filled before) };
 
     ghost room = { λ s. length s.buffer.now - s.filled };
 

@@ -8,6 +8,7 @@ ghost use Rattle.nw_model.specs.Step.{IsCausalReply, HasNoList};
 ghost use Rattle.nw_model.specs.View.{Shows};
 
 use super::Dag;
+use crate::completions::lacks_nothing;
 use crate::frozen::{as_one, freeze};
 use nw_digest::{Digest, NoMemory};
 use nw_generation::View;
@@ -54,16 +55,16 @@ impl Dag {
             (λ refusal. IsCausalReply self.now.state digest.now (Reply.Causal refusal)) }
         ensures sound { IsSound self.now.state }
     {
-        if self.is_complete(digest) {
-            return None;
-        }
         if self.held.block(digest).is_none() {
             return Some(CausalReply::Unknown);
         }
         if self.held.certificate(digest).is_none() {
             return Some(CausalReply::Uncertified);
         }
-        Some(CausalReply::Incomplete)
+        if !lacks_nothing(&self.waits.missing, *digest) {
+            return Some(CausalReply::Incomplete);
+        }
+        None
     }
 
     /// The reply that a causal read would get now, with `Ready` in place of a list.

@@ -3,6 +3,7 @@ ghost use Rattle.std.specs.Prelude.{IfOk};
 ghost use Rattle.nw_model.specs.Look.{AreLooks, IsLook, TellsSatisfied};
 
 use super::Dag;
+use crate::completions::lacks_nothing;
 use nw_digest::{NoMemory, Round};
 use nw_model::Look;
 use std::alloc::Global;
@@ -16,7 +17,11 @@ impl Dag {
         let certified = self.held.certified(round, author);
         let (stands, complete) = match certified {
             None => (false, false),
-            Some(digest) => (self.held.holds(&digest), self.is_complete(&digest)),
+            Some(digest) => {
+                let stands = self.held.holds(&digest);
+                let complete = stands && lacks_nothing(&self.waits.missing, digest);
+                (stands, complete)
+            }
         };
         Look {
             floor: self.held.floor(),

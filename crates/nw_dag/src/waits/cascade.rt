@@ -8,7 +8,7 @@ ghost use Rattle.nw_state.specs.Standing.{Stands};
 ghost use Rattle.nw_dag.specs.Lacking.{AreNotMet, IsReady};
 ghost use Rattle.nw_dag.specs.Changes.{AppendsThose, Promotes};
 ghost use Rattle.nw_dag.specs.Frozen.{Grows};
-ghost use Rattle.nw_dag.specs.Settled.{HasPendingCount, IsCascading, IsSettled, IsSettledWithout};
+ghost use Rattle.nw_dag.specs.AtRest.{HasPendingCount, IsCascading, IsAtRest, IsAtRestWithout};
 
 use super::Waits;
 use crate::completions::{is_ready, lacks_nothing};
@@ -17,7 +17,7 @@ use nw_state::StateTables;
 
 impl Waits {
     /// Lists the digest if it is ready.
-    pub(super) fn add_if_ready(&mut self, held: &StateTables, digest: Digest)
+    fn add_if_ready(&mut self, held: &StateTables, digest: Digest)
         requires pending { IsReady held.now.state self.old.missing.lacking digest
             → 0 < self.old.completions.pending }
         ensures unmet { self.new.missing.unmet ≡ self.old.missing.unmet }
@@ -70,7 +70,7 @@ impl Waits {
     pub(super) fn cascade(&mut self, held: &StateTables, first: usize)
         requires due { IsCascading held.now.state self.old.missing.unmet self.old.missing.lacking
             (drop first self.old.completions.fresh.items) self.old.completions.pending }
-        ensures settled { IsSettled held.now.state self.new.missing.unmet self.new.missing.lacking
+        ensures settled { IsAtRest held.now.state self.new.missing.unmet self.new.missing.lacking
             self.new.completions.pending }
         ensures grown { Grows held.now.state (IsReady held.now.state self.old.missing.lacking)
             self.old.missing.lacking self.new.missing.lacking
@@ -88,9 +88,9 @@ impl Waits {
     /// longer an unmet parent. If it is complete, it is listed and promoted, with all blocks that become complete as a result.
     /// Allocates nothing.
     pub(crate) fn arrive(&mut self, held: &StateTables, digest: Digest)
-        requires { IsSettledWithout held.now.state digest self.old.missing.unmet self.old.missing.lacking
+        requires { IsAtRestWithout held.now.state digest self.old.missing.unmet self.old.missing.lacking
             self.old.completions.pending }
-        ensures settled { IsSettled held.now.state self.new.missing.unmet self.new.missing.lacking
+        ensures settled { IsAtRest held.now.state self.new.missing.unmet self.new.missing.lacking
             self.new.completions.pending }
         ensures grown { Grows held.now.state
             (λ d. IsReady held.now.state self.old.missing.lacking d × (d ≡ digest → ⊥)) self.old.missing.lacking

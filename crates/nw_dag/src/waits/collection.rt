@@ -7,12 +7,12 @@ ghost use Rattle.nw_digest.specs.Order.{digest_cmp};
 ghost use Rattle.nw_dag.specs.Lacking.{IsReady};
 ghost use Rattle.nw_dag.specs.Changes.{AppendsThose};
 ghost use Rattle.nw_dag.specs.Frozen.{Grows};
-ghost use Rattle.nw_dag.specs.Settled.{HasPendingCount, IsSettled};
+ghost use Rattle.nw_dag.specs.AtRest.{HasPendingCount, IsAtRest};
 ghost use Rattle.nw_dag.specs.Collection.{AreReleased, StandsButLacks};
 ghost use Rattle.nw_dag.specs.Collection.{IsCompleteBelow, HasCompleteBelow, IsCollecting};
 
 use super::Waits;
-use crate::completions::{is_ready, lacks_nothing};
+use crate::completions::lacks_nothing;
 use nw_digest::{Digest, Round};
 use nw_state::StateTables;
 
@@ -21,9 +21,9 @@ impl Waits {
     fn is_complete_below(&self, held: &StateTables, digest: Digest, round: Round) -> bool
         ensures { IsTrue result ↔ IsCompleteBelow held.now.state self.now.missing.lacking round digest }
     {
-        match held.block(&digest) {
+        match held.standing(&digest) {
             None => false,
-            Some(block) => block.get().round < round && is_ready(held, &self.missing, digest),
+            Some(name) => name.round < round && lacks_nothing(&self.missing, digest),
         }
     }
 
@@ -58,8 +58,11 @@ impl Waits {
     {
         let lacked_nothing = lacks_nothing(&self.missing, holder);
         self.forget(holder);
-        if !lacked_nothing {
-            self.add_if_ready(held, holder);
+        if lacked_nothing {
+            return;
+        }
+        if held.standing(&holder).is_some() {
+            self.completions.add(holder);
         }
     }
 
@@ -84,7 +87,7 @@ impl Waits {
     pub(crate) fn collect(&mut self, held: &StateTables, holders: &[Digest], dropped: usize)
         requires { IsCollecting held.now.state self.old.missing.unmet self.old.missing.lacking
             self.old.completions.pending holders.now dropped }
-        ensures settled { IsSettled held.now.state self.new.missing.unmet self.new.missing.lacking
+        ensures settled { IsAtRest held.now.state self.new.missing.unmet self.new.missing.lacking
             self.new.completions.pending }
         ensures grown { Grows held.now.state (IsReady held.now.state self.old.missing.lacking)
             self.old.missing.lacking self.new.missing.lacking

@@ -1,8 +1,10 @@
 //! The replies to writes and certificates.
 ghost use Rattle.std.specs.Prelude.{◌≡◌, None, Some, is_some, if◌then◌else◌};
 ghost use Rattle.std.specs.Option.{option_and_then, option_copied};
+ghost use Rattle.nw_model.specs.declared.reply.WriteReply.TheVariants as write;
 ghost use Rattle.nw_model.specs.State.{certificate_slot, subject_slot};
-ghost use Rattle.nw_model.specs.Step.{write_reply, asked_write_reply, asked_certify_reply, has_other_slot, is_digest, is_held_block, is_slot, is_too_far};
+ghost use Rattle.nw_model.specs.Step.{write_reply, asked_write_reply, new_write_reply, asked_certify_reply};
+ghost use Rattle.nw_model.specs.Step.{has_other_slot, is_collected, is_digest, is_slot, is_too_far};
 
 use super::StateTables;
 use nw_codec::{Block, Certificate, Subject};
@@ -14,9 +16,13 @@ impl StateTables {
     pub fn write_reply(&self, digest: &Digest, block: &Block) -> WriteReply
         ensures { result ≡ write_reply self.now.bounds self.now.state digest.now block.now }
     {
-        match self.asked_write_reply(&block.subject(*digest)) {
-            WriteReply::Held if !self.holds_block(digest, block) => WriteReply::Clash,
-            reply => reply,
+        if let Some(refusal) = self.refusal_of_round(block.round) {
+            return refusal;
+        }
+        match self.block(digest) {
+            None => self.new_write_reply(&block.subject(*digest)),
+            Some(held) if block == held.get() => WriteReply::Held,
+            Some(_) => WriteReply::Clash,
         }
     }
 
@@ -27,29 +33,39 @@ impl StateTables {
         round.get() >= self.floor.get() + u64::from(self.window)
     }
 
-    /// Whether this block is held under the digest.
-    fn holds_block(&self, digest: &Digest, block: &Block) -> bool
-        ensures { result ≡ is_held_block self.now.state digest.now block.now }
+    /// The reply that a write of this round would get for its round alone, if it is below or above the rounds that are accepted.
+    fn refusal_of_round(&self, round: Round) -> Option<WriteReply>
+        ensures { result ≡ (if is_collected self.now.state round
+            then Some (write.Collected self.now.state.floor)
+            else if is_too_far self.now.bounds self.now.state round then Some write.TooFar else None) }
     {
-        match self.block(digest) {
-            None => false,
-            Some(held) => block == held.get(),
+        if round < self.floor {
+            return Some(WriteReply::Collected(self.floor));
         }
+        if self.is_too_far(round) {
+            return Some(WriteReply::TooFar);
+        }
+        None
     }
 
     /// The reply that a write with this subject would get now: `Held` if any block is held under its digest. Allocates nothing.
     pub fn asked_write_reply(&self, subject: &Subject) -> WriteReply
         ensures { result ≡ asked_write_reply self.now.bounds self.now.state subject.now }
     {
-        if subject.round < self.floor {
-            return WriteReply::Collected(self.floor);
+        if let Some(refusal) = self.refusal_of_round(subject.round) {
+            return refusal;
         }
-        if self.is_too_far(subject.round) {
-            return WriteReply::TooFar;
-        }
-        if self.block(&subject.digest).is_some() {
+        if self.holds(&subject.digest) {
             return WriteReply::Held;
         }
+        self.new_write_reply(subject)
+    }
+
+    /// The reply that a write with this subject would get now if its round is accepted and no block is held under its digest.
+    fn new_write_reply(&self, subject: &Subject) -> WriteReply
+        ensures { result ≡ new_write_reply self.now.bounds self.now.state
+            subject.now.digest (subject_slot subject.now) }
+    {
         let certificate = self.certificate(&subject.digest);
         if is_misfit(certificate, subject) {
             return WriteReply::Misfit;

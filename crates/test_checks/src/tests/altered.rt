@@ -1,13 +1,14 @@
 //! Messages with one altered byte.
 use super::signed::{block, certificate};
 use super::*;
-use nw_codec::DecodeError::{
+use Found::{BadBlock, BadCert, BadText};
+use nw_decode::DecodeError::{
     Short, Tag, TooManyParents, TooManyTransactions, TooManyVotes, Trailing, TransactionTooLong,
     Version, VoteOrder,
 };
 
-/// A change of one byte: what it shows, the place of the byte, counted from 0, the new byte, and the fault.
-type Change<F> = (&'static str, usize, u8, F);
+/// A change of one byte: what it shows, the place of the byte, counted from 0, the new byte, and what is found.
+type Change = (&'static str, usize, u8, Found);
 
 /// The result of checking the text with this byte at the place.
 fn altered(
@@ -88,75 +89,121 @@ fn each_byte_of_a_certificate_altered(rt: HostRuntime) -> Result<(), Fail> {
     Ok(())
 }
 
-/// Changes of a block that make it no message.
-const NO_BLOCKS: [Change<DecodeError>; 8] = [
-    ("no kind of message", 0, 4, Tag),
-    ("another version", 1, 2, Version),
-    ("101 parents", 11, 101, TooManyParents),
-    ("1,025 transactions", 12, 4, TooManyTransactions),
-    ("no transaction", 13, 0, Trailing),
-    ("a transaction of 65,537 bytes", 15, 1, TransactionTooLong),
-    ("a transaction of no byte", 17, 0, Trailing),
-    ("a transaction of two bytes", 17, 2, Short),
+/// Changes of a block of a committee of one. The first eight make it no message.
+const OF_A_BLOCK: [Change; 11] = [
+    ("no kind of message", 0, 4, BadText(Tag)),
+    ("another version", 1, 2, BadText(Version)),
+    ("101 parents", 11, 101, BadText(TooManyParents)),
+    ("1,025 transactions", 12, 4, BadText(TooManyTransactions)),
+    ("no transaction", 13, 0, BadText(Trailing)),
+    (
+        "a transaction of 65,537 bytes",
+        15,
+        1,
+        BadText(TransactionTooLong),
+    ),
+    ("a transaction of no byte", 17, 0, BadText(Trailing)),
+    ("a transaction of two bytes", 17, 2, BadText(Short)),
+    (
+        "an author who is no member",
+        3,
+        1,
+        BadBlock(BlockFault::Author),
+    ),
+    (
+        "round 1 without parents",
+        9,
+        1,
+        BadBlock(BlockFault::FewParents),
+    ),
+    (
+        "another transaction",
+        18,
+        121,
+        BadBlock(BlockFault::Signature),
+    ),
 ];
 
-/// Changes of a block that break a rule of a committee of one.
-const BAD_BLOCKS: [Change<BlockFault>; 3] = [
-    ("an author who is no member", 3, 1, BlockFault::Author),
-    ("round 1 without parents", 9, 1, BlockFault::FewParents),
-    ("another transaction", 18, 121, BlockFault::Signature),
-];
-
-/// Changes of a certificate that make it no message.
-const NO_CERTIFICATES: [Change<DecodeError>; 9] = [
-    ("a block of another version", 0, 1, Version),
-    ("a vote", 0, 3, Trailing),
-    ("no kind of message", 0, 4, Tag),
-    ("259 votes", 41, 1, TooManyVotes),
-    ("101 votes", 42, 101, TooManyVotes),
-    ("two votes", 42, 2, Trailing),
-    ("four votes", 42, 4, Short),
-    ("the second signer first", 44, 1, VoteOrder),
-    ("the second signer last", 176, 1, VoteOrder),
-];
-
-/// Changes of a certificate that break a rule of a committee of four.
-const BAD_CERTIFICATES: [Change<CertFault>; 7] = [
-    ("another digest", 1, 0, CertFault::Signature { signer: 0 }),
-    ("another round", 38, 1, CertFault::Signature { signer: 0 }),
-    ("another author", 40, 1, CertFault::Signature { signer: 0 }),
-    ("an author who is no member", 40, 4, CertFault::Author),
-    ("a signer who is no member", 176, 4, CertFault::Signer),
-    ("another signer", 176, 3, CertFault::Signature { signer: 3 }),
+/// Changes of a certificate of a committee of four. The first nine make it no message.
+const OF_A_CERTIFICATE: [Change; 16] = [
+    ("a block of another version", 0, 1, BadText(Version)),
+    ("a vote", 0, 3, BadText(Trailing)),
+    ("no kind of message", 0, 4, BadText(Tag)),
+    ("259 votes", 41, 1, BadText(TooManyVotes)),
+    ("101 votes", 42, 101, BadText(TooManyVotes)),
+    ("two votes", 42, 2, BadText(Trailing)),
+    ("four votes", 42, 4, BadText(Short)),
+    ("the second signer first", 44, 1, BadText(VoteOrder)),
+    ("the second signer last", 176, 1, BadText(VoteOrder)),
+    (
+        "another digest",
+        1,
+        0,
+        BadCert(CertFault::Signature { signer: 0 }),
+    ),
+    (
+        "another round",
+        38,
+        1,
+        BadCert(CertFault::Signature { signer: 0 }),
+    ),
+    (
+        "another author",
+        40,
+        1,
+        BadCert(CertFault::Signature { signer: 0 }),
+    ),
+    (
+        "an author who is no member",
+        40,
+        4,
+        BadCert(CertFault::Author),
+    ),
+    (
+        "a signer who is no member",
+        176,
+        4,
+        BadCert(CertFault::Signer),
+    ),
+    (
+        "another signer",
+        176,
+        3,
+        BadCert(CertFault::Signature { signer: 3 }),
+    ),
     (
         "another signature of member 1",
         111,
         0,
-        CertFault::Signature { signer: 1 },
+        BadCert(CertFault::Signature { signer: 1 }),
     ),
 ];
+
+/// The first of the changes after which something else is found.
+fn first_other(
+    alloc: Global,
+    committee: &Shared<Committee>,
+    text: &[u8],
+    changes: &[Change],
+) -> Result<Option<&'static str>, Fail> {
+    for (shows, place, byte, found) in changes {
+        if altered(alloc, committee, text, *place, *byte)? != *found {
+            return Ok(Some(*shows));
+        }
+    }
+    Ok(None)
+}
 
 #[test]
 fn each_field_altered(rt: HostRuntime) -> Result<(), Fail> {
     let one = committee(rt.alloc(), 1)?;
     let text = block(rt.alloc(), one.get(), 0)?;
-    for (shows, place, byte, fault) in NO_BLOCKS {
-        let found = altered(rt.alloc(), &one, &text, place, byte)?;
-        assert!(rt; found == Found::BadText(fault), "{shows}");
-    }
-    for (shows, place, byte, fault) in BAD_BLOCKS {
-        let found = altered(rt.alloc(), &one, &text, place, byte)?;
-        assert!(rt; found == Found::BadBlock(fault), "{shows}");
-    }
+    assert_eq!(rt; first_other(rt.alloc(), &one, &text, &OF_A_BLOCK)?, None);
     let four = committee(rt.alloc(), 4)?;
     let text = certificate(rt.alloc(), four.get())?;
-    for (shows, place, byte, fault) in NO_CERTIFICATES {
-        let found = altered(rt.alloc(), &four, &text, place, byte)?;
-        assert!(rt; found == Found::BadText(fault), "{shows}");
-    }
-    for (shows, place, byte, fault) in BAD_CERTIFICATES {
-        let found = altered(rt.alloc(), &four, &text, place, byte)?;
-        assert!(rt; found == Found::BadCert(fault), "{shows}");
-    }
+    assert_eq!(rt;
+        first_other(rt.alloc(), &four, &text, &OF_A_CERTIFICATE)?,
+        None
+    );
     Ok(())
 }

@@ -1,5 +1,6 @@
 //! Blocks and bodies of the largest size, and larger ones.
-use nw_codec::{Block, DecodeError, EncodeError, Ref, Transactions, decode_message, encode_body};
+use nw_codec::{Block, EncodeError, Ref, Transactions, encode_body};
+use nw_decode::{DecodeError, decode_message};
 use nw_digest::{Digest, Round, Sequence};
 use std::alloc::{AllocError, Global};
 use std::test::Fail;

@@ -1,9 +1,10 @@
 //! Messages and their bytes.
 use super::signed::BODY;
 use nw_codec::{
-    Block, Certificate, DecodeError, EncodeError, Message, Ref, Seal, Signature, Transactions,
-    Vote, block_digest, decode_message, encode_body, encode_message,
+    Block, Certificate, EncodeError, Message, Ref, Seal, Signature, Transactions, Vote,
+    block_digest, encode_body, encode_message,
 };
+use nw_decode::{DecodeError, decode_message};
 use nw_digest::{Digest, Sequence, digest_of};
 use samples::round;
 use std::alloc::{AllocError, Global};

@@ -2,7 +2,8 @@
 use super::messages::{of_block, of_certificate, of_vote};
 use super::signed::{block, certificate, vote};
 use super::*;
-use nw_codec::{Block, Message, Peek, decode_message, peek_message};
+use nw_codec::{Block, Message};
+use nw_decode::{Peek, decode_message, peek_message};
 
 /// What the front of the block's text must say.
 fn front_of_block(block: &Block) -> Peek {

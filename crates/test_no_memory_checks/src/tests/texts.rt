@@ -1,7 +1,8 @@
 //! Messages that are encoded, decoded, and checked.
 use super::*;
 use nw_check::{BlockFault, CertFault, Checked, check_message};
-use nw_codec::{DecodeError, EncodeError, decode_message, encode_body, encode_message};
+use nw_codec::{EncodeError, encode_body, encode_message};
+use nw_decode::{DecodeError, decode_message};
 use nw_sig::DemoScheme;
 use samples::fallible::vote;
 

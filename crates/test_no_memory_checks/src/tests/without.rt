@@ -2,9 +2,9 @@
 use super::*;
 use nw_check::{BlockFault, CertFault, Checked, check_block, check_cert, check_message, valid};
 use nw_codec::{
-    Block, DecodeError, EncodeError, Ref, Signature, Transactions, block_digest, decode_message,
-    encode_body, encode_message,
+    Block, EncodeError, Ref, Signature, Transactions, block_digest, encode_body, encode_message,
 };
+use nw_decode::{DecodeError, decode_message};
 use nw_digest::digest_of;
 use nw_sig::{DemoScheme, DemoSigner, Scheme, Signer, text_of_block, text_of_vote};
 use samples::fallible::{checked_block, checked_certificate, vote};
@@ -114,34 +114,6 @@ fn are_over_limit(alloc: Global, four: &Committee) -> Result<bool, Fail> {
     ];
     allow_allocations(alloc);
     Ok(!fits && refused == [Some(EncodeError::OverLimit); 4])
-}
-
-/// Whether a block, its body and a vote are written to a buffer, as they are encoded, without an allocation.
-fn are_written(alloc: Global, four: &Committee) -> Result<bool, Fail> {
-    let block = retry!(NoMemory, block_over(alloc, SLOT, &[]))?;
-    let (signature, vote) = (Signature([7; 64]), vote(four, VOTED, SLOT, 1));
-    if !block.fits() {
-        drop(block);
-        return Ok(false);
-    }
-    if block.body_size() > 256 || block.message_size() > 256 {
-        drop(block);
-        return Ok(false);
-    }
-    let body = retry!(NoMemory, block.body(alloc))?;
-    let message = retry!(NoMemory, block.message(alloc, &signature))?;
-    let voted = retry!(NoMemory, vote.message(alloc))?;
-    let mut buffers = [[9; 256]; 3];
-    fail_allocations(alloc);
-    block.write_body(&mut buffers[0]);
-    block.write_message(&signature, &mut buffers[1]);
-    vote.write_message(&mut buffers[2]);
-    allow_allocations(alloc);
-    Ok(
-        buffers[0].starts_with(&body)
-            && buffers[1].starts_with(&message)
-            && buffers[2].starts_with(&voted),
-    )
 }
 
 /// Whether digests, signed texts and signatures are made, and signatures are verified, without an allocation.
@@ -261,12 +233,13 @@ fn checked_values_answer(alloc: Global, four: &Shared<Committee>) -> Result<bool
 }
 
 /// The results of all calls, each of which must be true.
-fn all_results(alloc: Global, four: &Shared<Committee>) -> Result<[bool; 9], Fail> {
+fn all_results(alloc: Global, four: &Shared<Committee>) -> Result<[bool; 10], Fail> {
     Ok([
         have_faults(alloc, four)?,
         finds_a_vote(alloc, four)?,
         are_over_limit(alloc, four.get())?,
-        are_written(alloc, four.get())?,
+        written::are_written(alloc, four.get())?,
+        written::is_certificate_written(alloc, four.get())?,
         is_signed(alloc, four.get())?,
         committees_answer(alloc, four.get())?,
         blocks_have_faults(alloc, four)?,
@@ -281,7 +254,7 @@ fn calls_without_allocation(rt: HostRuntime) -> Result<(), Fail> {
     let right = all_results(rt.alloc(), &four);
     let no_workers_refused = workers::refuses_no_workers(&rt, rt.alloc(), &four);
     drop(four);
-    assert_eq!(rt; right?, [true; 9]);
+    assert_eq!(rt; right?, [true; 10]);
     assert!(rt; no_workers_refused);
     Ok(())
 }

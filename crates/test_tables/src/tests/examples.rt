@@ -191,12 +191,18 @@ fn is_played(alloc: Global, example: &Example) -> bool {
     matches!(answered, Ok(true))
 }
 
+/// What the first of these examples shows that is not played as written.
+fn first_other(alloc: Global, examples: &[Example]) -> Option<&'static str> {
+    for example in examples {
+        if !is_played(alloc, example) {
+            return Some(example.purpose);
+        }
+    }
+    None
+}
+
 #[test]
 fn the_tables_answer_as_the_plain_store(rt: HostRuntime) {
-    for example in &tables::replies::EXAMPLES {
-        assert!(rt; is_played(rt.alloc(), example), "{}", example.purpose);
-    }
-    for example in &tables::parents::EXAMPLES {
-        assert!(rt; is_played(rt.alloc(), example), "{}", example.purpose);
-    }
+    assert_eq!(rt; first_other(rt.alloc(), &tables::replies::EXAMPLES), None);
+    assert_eq!(rt; first_other(rt.alloc(), &tables::parents::EXAMPLES), None);
 }

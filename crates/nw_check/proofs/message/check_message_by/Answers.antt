@@ -1,5 +1,5 @@
 use Rattle.std.proofs.Common.{◌≡◌, refl}
-use Rattle.nw_codec.specs.declared.error.DecodeError.TheVariants.{NoMemory}
+use Rattle.nw_decode.specs.declared.error.DecodeError.TheVariants.{NoMemory}
 use Rattle.nw_check.proofs.message.check_message_by.Goals as goal
 
 pub returns-in_default : goal.returns-in_default

@@ -6,7 +6,7 @@ use Rattle.nw_codec.proofs.encode.put_block.Goals as goal
 pub returns-clause-text : goal.returns-clause-text
 unfolding message
 returns-clause-text g c = on_ok_weaker c.put-2.result
-    (λ put start. put _ (c.in_ok-put_body.ensures.text (1 ∷ []) (c.in_ok-put.ensures.text [] start)))
+    (λ put before start. put before _ (c.in_ok-put_body.ensures.text before (1 ∷ []) (c.in_ok-put.ensures.text before [] start)))
     c.put-2.ensures.text
 
 pub returns-clause-typed : goal.returns-clause-typed

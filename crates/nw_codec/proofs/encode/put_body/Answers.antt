@@ -19,11 +19,11 @@ returns-clause-room g c =
 
 pub returns-clause-text : goal.returns-clause-text
 returns-clause-text g c = on_ok_weaker c.put-6.result
-    (λ put text start. subst (λ (t : List ℕ). g.S.Sink.holds c.put-6.new.self t)
+    (λ put before text start. subst (λ (t : List ℕ). g.S.Sink.holds c.put-6.new.self before t)
     (pieces_of_body text c.args.block.now
     c.to_be_bytes.result (take 6 (drop 2 c.to_be_bytes-2.result)) c.to_be_bytes-3.result c.as_slice-parents.result.now c.to_be_bytes-4.result c.args.block.now.transactions
     c.to_be_bytes.ensures (rw (c.to_be_bytes-2.ensures, c.get.ensures.number) refl) (search rules) c.as_slice-parents.ensures (search rules) refl)
-    (rw c.text.ensures at (put _ (c.in_ok-put-5.ensures.text _ (c.in_ok-put_parents.ensures.text _ (c.in_ok-put-4.ensures.text _ (c.in_ok-put-3.ensures.text _ (c.in_ok-put-2.ensures.text _ (c.in_ok-put.ensures.text text start)))))))))
+    (rw c.text.ensures at (put before _ (c.in_ok-put-5.ensures.text before _ (c.in_ok-put_parents.ensures.text before _ (c.in_ok-put-4.ensures.text before _ (c.in_ok-put-3.ensures.text before _ (c.in_ok-put-2.ensures.text before _ (c.in_ok-put.ensures.text before text start)))))))))
     c.put-6.ensures.text
 
 pub returns-clause-typed : goal.returns-clause-typed

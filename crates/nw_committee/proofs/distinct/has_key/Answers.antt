@@ -1,5 +1,6 @@
 use Rattle.std.proofs.Common.{◌∙◌, refl, sym}
-use Rattle.nw_committee.proofs.DistinctKeys.{same_key, other_key, has_key_here, has_key_none, whole_front}
+use Rattle.nw_committee.proofs.DistinctKeys.{same_key, other_key, has_key_here, has_key_none}
+use Rattle.nw_committee.proofs.Listed.{whole_front}
 use Rattle.nw_committee.proofs.distinct.has_key.Goals as goal
 
 pub returns-then-eq : goal.returns-then-eq

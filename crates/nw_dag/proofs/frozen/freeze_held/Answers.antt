@@ -10,7 +10,7 @@ use Rattle.nw_digest.specs.declared.digest.Digest.{Digest}
 use Rattle.nw_digest.specs.Order.{digest_cmp}
 use Rattle.nw_model.specs.State.{State}
 use Rattle.nw_digest.proofs.Maps.{digests_apart, digests_total, put_entries}
-use Rattle.nw_state.proofs.Opening.{ordered_none}
+use Rattle.nw_digest.proofs.Elements.{ordered_none}
 use Rattle.nw_dag.specs.Frozen.{AreHeldUnder}
 use Rattle.nw_dag.proofs.Ascending.{before_place, goes_last}
 use Rattle.nw_dag.proofs.Freezing.{held_none, held_more, held_same}
@@ -18,7 +18,7 @@ use Rattle.nw_dag.proofs.frozen.freeze_held.Goals.{in-Some+in_ok-try_clone+in_ok
 use Rattle.nw_dag.proofs.frozen.freeze_held.Goals as goal
 
 pub loop-digest-init : goal.loop-digest-init
-loop-digest-init c = rw c.in_ok-entries.ensures.items (record { held = held_none c.args.held.now.state; ascend = ordered_none; before = λ k among. among })
+loop-digest-init c = rw c.in_ok-entries.ensures.items (record { held = held_none c.args.held.now.state; ascend = ordered_none digest_cmp; before = λ k among. among })
 
 pub loop-digest-preserved : goal.loop-digest-preserved
 loop-digest-preserved c =

@@ -1,7 +1,8 @@
 use Rattle.std.proofs.Common.{List, subst}
 use Rattle.std.specs.Prelude.{MatchOption, All}
 use Rattle.nw_codec.specs.declared.certificate.Seal.{Seal}
-use Rattle.nw_check.specs.Seals.{IsSealFor, IsFirstBad}
+use Rattle.nw_model.specs.Checks.{IsSealFor}
+use Rattle.nw_check.specs.Seals.{IsFirstBad}
 use Rattle.nw_curve.proofs.Inverses.{one-has_inverse}
 use Rattle.nw_ed25519.specs.Accepts.{accepts}
 use Rattle.nw_prepared.proofs.FirstBad.{in_front, then_later, rest_is}

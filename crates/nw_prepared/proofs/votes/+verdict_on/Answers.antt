@@ -2,7 +2,7 @@ use Rattle.std.proofs.Common.{◌≡◌, ◌∙◌, ◌<◌, false, true, None, 
 use Rattle.std.specs.Prelude.{slice_range, take}
 use Rattle.nw_codec.specs.Same.{same_bytes}
 use Rattle.nw_codec.specs.declared.certificate.Seal.{Seal}
-use Rattle.nw_check.specs.Seals.{IsSealFor}
+use Rattle.nw_model.specs.Checks.{IsSealFor}
 use Rattle.nw_curve.specs.Coding.{encoded}
 use Rattle.nw_curve.proofs.Inverses.{inverse_of, product-has_inverse, first_inverse, second_inverse}
 use Rattle.nw_ed25519.specs.Accepts.{accepts}

@@ -4,7 +4,7 @@ use Rattle.std.specs.Map.Iter.{deref_pair}
 use Rattle.std.proofs.lemmas.Map.Iter.{iter_end}
 use lib.Dec.{eqb}
 use Rattle.nw_rounds.specs.Places.{tables_of, with_author}
-use Rattle.nw_rounds.proofs.AtRound.{are_authors, authors_more, authors_of, authors_read, dedup_more}
+use Rattle.nw_rounds.proofs.Authors.{are_authors, authors_more, authors_of, authors_read, dedup_more}
 use Rattle.nw_rounds.proofs.rounds.authors_at.Goals as goal
 
 pub loop-place-preserved : goal.loop-place-preserved

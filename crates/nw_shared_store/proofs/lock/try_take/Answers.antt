@@ -1,6 +1,5 @@
-use Rattle.std.proofs.Common.{ℕ, List, ◌∷◌, subst, sym, ◌<◌, arith, ◌∙◌, ap}
+use Rattle.std.proofs.Common.{◌≡◌, ℕ, List, ◌∷◌, subst, sym, ◌<◌, arith, ◌∙◌, ap}
 use Rattle.std.specs.Prelude.{◌==◌}
-use Rattle.std.proofs.lemmas.Bool.{eqb-true}
 use mathlib.Core.Option.{none}
 use prog.Atomic.{either}
 use Rattle.atomic_table.specs.Table.{Allows, step}
@@ -20,7 +19,8 @@ compare_exchange-requires g c =
     )
 
 pub returns-clause-got : goal.returns-clause-got
-returns-clause-got g c = λ got.
-    let told = c.compare_exchange.ensures.2.0 (eqb-true _ _ got) in
+returns-clause-got g c =
+    let free : c.compare_exchange.result ≡ 0 = omega arith in
+    let told = c.compare_exchange.ensures.2.0 free in
     let v = c.args.seat.now.me.0 in
     (told.0, told.1 ∙ ap (λ (l : List (ℕ × Current)). (holder_of told.0 v, (0, told.0) ∷ l)) c.requires.out, told.2)

@@ -1,9 +1,9 @@
-use Rattle.std.proofs.Common.{rules}
+use Rattle.std.proofs.Common.{rules, []}
 use Rattle.nw_codec.proofs.block.Block.message.Goals as goal
 
 pub returns : goal.returns
 returns c = record {
   typed = c.in_ok-put_block.ensures.typed;
   fits = search rules;
-  bytes = c.in_ok-put_block.ensures.text c.in_ok-text.ensures.items;
+  bytes = c.in_ok-put_block.ensures.text [] c.in_ok-text.ensures.items;
 }

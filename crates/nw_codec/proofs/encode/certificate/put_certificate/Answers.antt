@@ -9,7 +9,7 @@ use Rattle.nw_codec.proofs.encode.certificate.put_certificate.Goals as goal
 pub returns-clause-text : goal.returns-clause-text
 unfolding message
 returns-clause-text g c = on_ok_weaker c.put_seals.result
-    (λ put start. let all = put _ (c.in_ok-put.ensures.text _ (c.in_ok-put_subject.ensures.text start)) in
+    (λ put before start. let all = put before _ (c.in_ok-put.ensures.text before _ (c.in_ok-put_subject.ensures.text before start)) in
     grind (arith, common_steps))
     c.put_seals.ensures.text
 

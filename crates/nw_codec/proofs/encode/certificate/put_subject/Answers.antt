@@ -3,12 +3,12 @@ use Rattle.std.proofs.lemmas.Result.{on_ok_weaker}
 use Rattle.std.specs.Int.{to_be_bytes, w16}
 use Rattle.nw_codec.specs.Grammar.{round_bytes}
 use Rattle.nw_codec.specs.Typed.{AreBytes}
-use Rattle.nw_codec.proofs.Steps.{bytes_of}
+use Rattle.nw_codec.proofs.Pieces.{bytes_of}
 use Rattle.nw_codec.proofs.encode.certificate.put_subject.Goals as goal
 
 pub returns-clause-text : goal.returns-clause-text
 returns-clause-text g c = on_ok_weaker c.put-2.result
-    (λ put start. rw c.bytes.ensures.text at (put _ (c.in_ok-put.ensures.text [] start)))
+    (λ put before start. rw c.bytes.ensures.text at (put before _ (c.in_ok-put.ensures.text before [] start)))
     c.put-2.ensures.text
 
 pub returns-clause-typed : goal.returns-clause-typed

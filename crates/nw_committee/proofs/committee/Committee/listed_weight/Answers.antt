@@ -1,6 +1,6 @@
 use Rattle.std.proofs.Common.{map, arith, sym}
 use Rattle.nw_committee.proofs.Weights.{total-le}
-use Rattle.nw_committee.proofs.Listed.{listed_weight-none, listed_weight-more, listed_weight-fits, number-within, number_weighs, whole_numbers}
+use Rattle.nw_committee.proofs.Listed.{listed_weight-none, listed_weight-more, listed_weight-fits, number-within, number_weighs, whole_front}
 use Rattle.nw_committee.proofs.committee.Committee.listed_weight.Goals as goal
 
 pub loop-one-init : goal.loop-one-init
@@ -26,4 +26,4 @@ loop-one-preserved g c =
     omega (arith, more, added, c.loop-one.invariant)
 
 pub returns : goal.returns
-returns g c = rw (← whole_numbers g.T.Numbered.number_of _ _ c.loop-one-test.false) c.loop-one.invariant
+returns g c = rw (← whole_front g.T.Numbered.number_of _ _ c.loop-one-test.false) c.loop-one.invariant

@@ -1,11 +1,13 @@
 use Rattle.std.proofs.Common.{Bool, false, ap, sym, ◌∙◌}
 use Rattle.std.specs.Option.{option_map_or}
+use Rattle.std.proofs.lemmas.Bool.{false≢true}
 use Rattle.nw_model.specs.Step.{is_held}
 use Rattle.nw_model.specs.declared.look.Look.{Look}
 use Rattle.nw_model.specs.Look.{IsLook}
 use Rattle.nw_model.proofs.Looks.{tells_satisfied}
 use Rattle.nw_plain.proofs.Looks.{complete_none, complete_some}
-use Rattle.nw_dag.proofs.dag.Dag.look.Goals.{in-None, in-Some}
+use Rattle.nw_dag.proofs.Complete.{certified_complete}
+use Rattle.nw_dag.proofs.dag.Dag.look.Goals.{in-None, in-Some+then-stands, in-Some+else-stands}
 use Rattle.nw_dag.proofs.dag.Dag.look.Goals as goal
 
 pub returns-clause-look : goal.returns-clause-look
@@ -13,17 +15,26 @@ returns-clause-look c =
     let s = c.self.inside.held.state in
     let certified = c.match-certified.certified in
     let complete = c.match-certified.stands.1 in
+    let whole = certified_complete s c.self.inside.waits.missing.lacking c.self.invariant.settled.settling.promoted c.certified-certified.ensures.sound (c.args.round, c.args.author) in
     rw (← c.self.view_is) (record {
       floor = c.floor.ensures;
       first = c.first.ensures;
-      certified = elim c.match-certified.branch [ in-None w ↦ w.certified-is ∙ c.certified-certified.ensures.value | in-Some w ↦ w.certified-is ∙ w.in-Some.ensures.value ];
+      certified = elim c.match-certified.branch [ in-None w ↦ w.certified-is ∙ c.certified-certified.ensures.value | in-Some+then-stands w ↦ w.certified-is ∙ w.in-Some.ensures.value | in-Some+else-stands w ↦ w.certified-is ∙ w.in-Some.ensures.value ];
       stands = elim c.match-certified.branch [
         | in-None w ↦ ap (λ (p : Bool × Bool). p.0) w.stands-is ∙ ap (λ found. option_map_or (is_held s) found false) (sym (w.certified-is ∙ w.in-None.is))
-        | in-Some w ↦ ap (λ (p : Bool × Bool). p.0) w.stands-is ∙ w.holds.ensures ∙ ap (λ found. option_map_or (is_held s) found false) (sym w.certified-is)
+        | in-Some+then-stands w ↦ ap (λ (p : Bool × Bool). p.0) w.stands-is ∙ w.holds-stands.ensures ∙ ap (λ found. option_map_or (is_held s) found false) (sym w.certified-is)
+        | in-Some+else-stands w ↦ ap (λ (p : Bool × Bool). p.0) w.stands-is ∙ w.holds-stands.ensures ∙ ap (λ found. option_map_or (is_held s) found false) (sym w.certified-is)
       ];
       complete = elim c.match-certified.branch [
         | in-None w ↦ complete_none s complete certified (ap (λ (p : Bool × Bool). p.1) w.stands-is) (w.certified-is ∙ w.in-None.is)
-        | in-Some w ↦ complete_some s complete w.is_complete.result certified w.in-Some.digest (ap (λ (p : Bool × Bool). p.1) w.stands-is) w.certified-is (rw (← c.self.view_is) at w.is_complete.ensures.complete)
+        | in-Some+then-stands w ↦
+            let same = whole w.in-Some.digest (sym w.in-Some.ensures.value) in
+            complete_some s complete w.lacks_nothing-complete.result certified w.in-Some.digest (ap (λ (p : Bool × Bool). p.1) w.stands-is) w.certified-is
+            (λ true. same.0 (sym w.holds-stands.ensures ∙ w.if-stands.true, w.lacks_nothing-complete.ensures.nothing.0 true), λ is. w.lacks_nothing-complete.ensures.nothing.1 (same.1 is).1)
+        | in-Some+else-stands w ↦
+            let same = whole w.in-Some.digest (sym w.in-Some.ensures.value) in
+            complete_some s complete w.holds-stands.result certified w.in-Some.digest (ap (λ (p : Bool × Bool). p.1) w.stands-is) w.certified-is
+            (λ true. absurd (false≢true (sym w.if-stands.false ∙ true)), λ is. w.holds-stands.ensures ∙ (same.1 is).0)
       ];
     })
 

@@ -1,7 +1,7 @@
 use Rattle.std.proofs.Common.{◌≡◌, IsSome, drop, refl, sym, subst}
 use Rattle.nw_waiting.specs.Pairs.{Pairs}
 use Rattle.nw_dag.specs.Frozen.{Grows}
-use Rattle.nw_dag.specs.Settled.{IsCascading, IsSettled}
+use Rattle.nw_dag.specs.AtRest.{IsCascading, IsAtRest}
 use Rattle.nw_model.specs.State.{State}
 use Rattle.nw_state.specs.Standing.{Stands}
 use Rattle.nw_dag.specs.Lacking.{LacksNothing, IsReady}
@@ -57,7 +57,7 @@ returns-else-lacks_nothing c =
     let lacks = refuted c.lacks_nothing.result (LacksNothing c.meet.new.self.lacking c.args.digest) c.lacks_nothing.ensures.nothing c.if-lacks_nothing.false in
     let never : IsReady s self.missing.lacking c.args.digest → ⊥ = λ ready. lacks (subst (λ (m : Pairs). LacksNothing m c.args.digest) (sym c.meet.ensures.lacking) ready.1) in
     record {
-      settled = subst (λ (m : Pairs). IsSettled s c.meet.new.self.unmet m self.completions.pending) (sym c.meet.ensures.lacking) (not_ready s c.args.digest self.missing.unmet c.meet.new.self.unmet self.missing.lacking self.completions.pending never
+      settled = subst (λ (m : Pairs). IsAtRest s c.meet.new.self.unmet m self.completions.pending) (sym c.meet.ensures.lacking) (not_ready s c.args.digest self.missing.unmet c.meet.new.self.unmet self.missing.lacking self.completions.pending never
           (met_by_name s c.args.digest c.in-Some.name self.missing.unmet c.meet.new.self.unmet c.in-Some.ensures.name (c.standing.ensures.stands.0 (subst IsSome (sym c.in-Some.is) refl)) c.requires.standing c.meet.ensures.unmet) c.requires);
       grown = subst (λ (m : Pairs). Grows s (λ d. IsReady s self.missing.lacking d × (d ≡ c.args.digest → ⊥)) self.missing.lacking m self.completions.fresh.items self.completions.fresh.items) (sym c.meet.ensures.lacking)
           (grown_none s c.args.digest self.missing.lacking self.completions.fresh.items never);

@@ -1,7 +1,7 @@
 use Rattle.std.specs.Prelude.{◌≡◌, ◌+◌, drop, length}
 use Rattle.nw_dag.specs.Lacking.{IsReady}
 use Rattle.nw_dag.specs.Frozen.{Grows}
-use Rattle.nw_dag.specs.Settled.{IsCascading}
+use Rattle.nw_dag.specs.AtRest.{IsCascading}
 use Rattle.nw_dag.proofs.waits.Waits.cascade.Given as goal
 
 abbrev pub invariant-loop-place : goal.invariant-loop-place

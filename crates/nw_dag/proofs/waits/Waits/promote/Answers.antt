@@ -3,7 +3,7 @@ use Rattle.nw_digest.specs.declared.digest.Digest.{Digest}
 use Rattle.nw_waiting.specs.Pairs.{Pairs}
 use Rattle.nw_dag.specs.Lacking.{IsReady}
 use Rattle.nw_dag.specs.Changes.{AppendsThose, Promotes}
-use Rattle.nw_dag.specs.Settled.{HasPendingCount}
+use Rattle.nw_dag.specs.AtRest.{HasPendingCount}
 use Rattle.nw_dag.proofs.Steps.{count_fewer, promotes, met_at}
 use Rattle.nw_dag.proofs.Written.{nobody_wants}
 use Rattle.nw_dag.proofs.waits.Waits.promote.Goals as goal
@@ -28,3 +28,6 @@ pub returns-in-Some-clause-unmet : goal.returns-in-Some-clause-unmet
 returns-in-Some-clause-unmet c =
     c.add_ready.ensures.unmet ∙ c.drop_parent-holders.ensures.unmet
     ∙ nobody_wants c.args.self.now.missing.unmet c.in-Some.wanted (λ h lacks. c.requires.unmet h c.in-Some.wanted lacks (met_at c.args.held.now.state c.args.digest c.in-Some.wanted c.in-Some.ensures c.requires.stands))
+
+pub drop_parent-holders-requires : goal.drop_parent-holders-requires
+drop_parent-holders-requires c h lacks = c.requires.unmet h c.in-Some.wanted lacks (met_at c.args.held.now.state c.args.digest c.in-Some.wanted c.in-Some.ensures c.requires.stands)

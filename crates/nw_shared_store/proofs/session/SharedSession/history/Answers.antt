@@ -1,7 +1,7 @@
-use Rattle.std.proofs.Common.{rules, ◌∙◌, ap, subst}
+use Rattle.std.proofs.Common.{rules, ◌∙◌, ap, subst, refl, sym}
 use Rattle.nw_book.specs.Journal.{origin_of}
 use Rattle.nw_shared_store.specs.Rule.{knowing}
-use Rattle.nw_shared_store.specs.Session.{IsPresent, IsSameSession, SessionView}
+use Rattle.nw_shared_store.specs.Session.{IsPresent, IsSameSession, IsUnseen, SessionView}
 use Rattle.nw_shared_store.proofs.Seated.{as_before, session_has_value, session_may_free, same_view, session_freed, unseen_of, unchanged_session, view_at}
 use Rattle.nw_shared_store.proofs.Answered.{knows, present_is, same_reader, session_knowing}
 use Rattle.nw_shared_store.proofs.session.SharedSession.history.Goals as goal
@@ -11,6 +11,9 @@ returns-in_err-take_in-clause-refused g c = unseen_of c.from_residual.result (se
 
 pub history_at-requires-clause-held : goal.history_at-requires-clause-held
 history_at-requires-clause-held g c = session_has_value _ _ _ _ _ _ c.self.invariant c.in_ok-take_in.ensures.got
+
+pub returns-in-Err-clause-refused : goal.returns-in-Err-clause-refused
+returns-in-Err-clause-refused g c = subst IsUnseen (sym c.from.ensures) refl
 
 pub give_back-requires-clause-same : goal.give_back-requires-clause-same
 give_back-requires-clause-same g c = session_may_free _ _ _ _ _ _ c.self.invariant c.in_ok-take_in.ensures.got _ c.history_at.ensures.same

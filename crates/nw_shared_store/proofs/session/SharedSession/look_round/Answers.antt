@@ -1,7 +1,7 @@
-use Rattle.std.proofs.Common.{rules, ◌∙◌, subst}
+use Rattle.std.proofs.Common.{rules, ◌∙◌, subst, refl, sym}
 use Rattle.nw_history.specs.Story.{state_of}
 use Rattle.nw_model.specs.Look.{AreLooks}
-use Rattle.nw_shared_store.specs.Session.{HasSeen, IsSameSession, SessionView}
+use Rattle.nw_shared_store.specs.Session.{HasSeen, IsSameSession, IsUnseen, SessionView}
 use Rattle.nw_shared_store.proofs.Seated.{as_before, session_has_value, session_may_free, same_view, session_freed, unseen_of, unchanged_session, view_at}
 use Rattle.nw_shared_store.proofs.Answered.{same_reader, seen, session_knowing}
 use Rattle.nw_shared_store.proofs.session.SharedSession.look_round.Goals as goal
@@ -28,6 +28,9 @@ pub returns-clause-seen : goal.returns-clause-seen
 returns-clause-seen g c =
     subst (λ (v : SessionView). HasSeen g.S.Scheme.accepts v (view_at c.self.inside.lock.value.shared.table_id c.end_reading.new.seat.me) (λ h. AreLooks (state_of h) c.args.round c.in-Ok.looks.items)) c.self.view_is
     (seen g.S.Scheme.accepts _ _ _ _ _ _ c.self.invariant c.in_ok-take_in.ensures.got _ _ c.look_round_at.ensures.same c.end_reading.ensures.read (λ h. AreLooks (state_of h) c.args.round c.in-Ok.looks.items) c.in-Ok.ensures.looks)
+
+pub returns-in-Err-clause-refused : goal.returns-in-Err-clause-refused
+returns-in-Err-clause-refused g c = subst IsUnseen (sym c.from.ensures) refl
 
 pub give_back-requires-clause-same : goal.give_back-requires-clause-same
 give_back-requires-clause-same g c = session_may_free _ _ _ _ _ _ c.self.invariant c.in_ok-take_in.ensures.got _ c.look_round_at.ensures.same

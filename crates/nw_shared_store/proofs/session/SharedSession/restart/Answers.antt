@@ -1,5 +1,5 @@
-use Rattle.std.proofs.Common.{rules, ◌∙◌, subst}
-use Rattle.nw_shared_store.specs.Session.{IsRestarted, SessionView}
+use Rattle.std.proofs.Common.{rules, ◌∙◌, subst, refl, sym}
+use Rattle.nw_shared_store.specs.Session.{IsRestarted, IsUnseen, SessionView}
 use Rattle.nw_shared_store.proofs.Seated.{as_before, session_has_value, session_may_free, same_view, session_freed, unseen_of, view_at}
 use Rattle.nw_shared_store.proofs.Answered.{may_restart, restarted, session_restarted}
 use Rattle.nw_shared_store.proofs.session.SharedSession.restart.Goals as goal
@@ -9,6 +9,9 @@ returns-in_err-take_in-clause-refused g c = unseen_of c.from_residual.result (se
 
 pub restart_at-requires-clause-held : goal.restart_at-requires-clause-held
 restart_at-requires-clause-held g c = session_has_value _ _ _ _ _ _ c.self.invariant c.in_ok-take_in.ensures.got
+
+pub returns-in-Err-clause-refused : goal.returns-in-Err-clause-refused
+returns-in-Err-clause-refused g c = subst IsUnseen (sym c.from.ensures) refl
 
 pub give_back-requires-clause-same : goal.give_back-requires-clause-same
 give_back-requires-clause-same g c = session_may_free _ _ _ _ _ _ c.self.invariant c.in_ok-take_in.ensures.got _ c.in-Err.ensures.unchanged

@@ -1,7 +1,0 @@
-use Rattle.std.proofs.Common.{◌-◌, ◌≤◌}
-use Rattle.nw_codec.specs.Faults.{at_transactions, Reaches}
-use Rattle.nw_codec.proofs.decode.block.after_transactions.Given as goal
-
--- The transactions so far lead to the length of the next one.
-abbrev pub invariant-loop : goal.invariant-loop
-invariant-loop l = (l.size ≤ 1048576) × Reaches (at_transactions l.count l.fn.size) l.text (at_transactions (l.count - l.counter) l.size) l.rest

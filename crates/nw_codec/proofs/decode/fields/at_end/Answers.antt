@@ -1,6 +1,0 @@
-use Rattle.nw_codec.proofs.Fronts.{trailing}
-use Rattle.nw_codec.proofs.Fields.{not_empty}
-use Rattle.nw_codec.proofs.decode.fields.at_end.Goals as goal
-
-pub returns-then-not-is_empty : goal.returns-then-not-is_empty
-returns-then-not-is_empty c = trailing _ (not_empty _ _ c.if-not-is_empty.true c.is_empty.ensures)

@@ -1,0 +1,12 @@
+use Rattle.std.proofs.Common.{◌≡◌, length, ap, arith}
+use Rattle.std.proofs.lemmas.List.{length-take}
+use Rattle.nw_digest.proofs.Bytes.{are_bytes}
+use Rattle.nw_decode.proofs.Fields.{number_len, item_at}
+use Rattle.nw_decode.proofs.decode.certificate.seal_of.Goals as goal
+
+pub returns : goal.returns
+returns c =
+    let signer = c.number_of-signer.ensures in
+    let long : length c.front.result.0.now ≡ 64 = omega (arith, ap length c.front.ensures.front, length-take 64 c.number_of-signer.result.1.now, number_len _ _ _ signer) in
+    let item = item_at 64 c.number_of-signer.result.0 _ _ _ _ (are_bytes _ c.type_inv.text) long signer c.front.ensures.front c.front.ensures.back in
+    (record { signer = signer.low; signature = record { len = item.len; bytes = item.each } }, item.whole)

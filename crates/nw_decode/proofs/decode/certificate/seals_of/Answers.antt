@@ -1,0 +1,21 @@
+use Rattle.std.proofs.Common.{◌≡◌, [], length, ap, arith}
+use Rattle.std.proofs.lemmas.List.{length-append, nil_from_length}
+use Rattle.nw_codec.specs.Grammar.{seal_bytes}
+use Rattle.nw_codec.specs.Typed.{IsSeal}
+use Rattle.nw_codec.proofs.Building.{one_more_built, all_built}
+use Rattle.nw_codec.proofs.Sizes.{length-seal}
+use Rattle.nw_decode.proofs.decode.certificate.seals_of.Goals as goal
+
+pub loop-preserved : goal.loop-preserved
+loop-preserved c =
+    let item = c.seal_of.result.0 in
+    let read = c.seal_of.ensures in
+    record {
+      built = one_more_built seal_bytes IsSeal _ _ _ item _ _ c.loop.invariant.built read.0 read.1 c.in_ok-push.ensures.items;
+      left = omega (arith, c.loop.invariant.left, ap length read.1, length-append (seal_bytes item) c.seal_of.result.1.now, length-seal item read.0);
+    }
+
+pub returns : goal.returns
+returns c =
+    let none : c.loop.rest.now ≡ [] = nil_from_length c.loop.rest.now (omega (arith, c.loop.invariant.left)) in
+    rw c.new.ensures (c.loop.invariant.built.holds, all_built seal_bytes IsSeal _ _ _ c.loop.invariant.built none)
