@@ -53,7 +53,7 @@ static void tell_reply(const char *what, int32_t code, nw_answer *answer)
 int main(void)
 {
 	uint8_t keys[128], text[512], again[512], body[64];
-	nw_member members[4];
+	nw_member members[4], member = {{0}, 0};
 	const nw_limits limits = {1024, 1024, 64, 1};
 	nw_committee committee = {0};
 	nw_checked block = {0}, certificate = {0};
@@ -77,6 +77,9 @@ int main(void)
 	}
 	tell("store without a committee", nw_store_new(&committee, &limits, &store));
 	tell("committee", nw_committee_new(members, 4, &committee));
+	tell("size", nw_committee_size(&committee, &length));
+	tell("member", nw_committee_member(&committee, 3, &member));
+	printf("  of %d, with the given key: %d\n", (int)length, memcmp(member.key, members[3].key, 32) == 0);
 	tell("store", nw_store_new(&committee, &limits, &store));
 	tell("session", nw_store_session(&store, &session));
 	tell("room for answers", nw_answer_new(&answer));

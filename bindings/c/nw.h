@@ -105,7 +105,7 @@ enum {
 	NW_HISTORY_FULL = 9,
 	/* A round is not below 2^48. */
 	NW_BAD_ROUND = 10,
-	/* The buffer is too small. Only the needed size was written. */
+	/* A buffer or an array is too small. Only the needed size was written. */
 	NW_SMALL = 11,
 	/* There is nothing at the index, or there is no such value. */
 	NW_ABSENT = 12,
@@ -138,7 +138,7 @@ enum {
 
 /* The kinds of checked texts. */
 enum {
-	/* A block. A checked one is valid. */
+	/* A block. A checked one is well formed. */
 	NW_BLOCK = 101,
 	/* A certificate. A checked one is valid. */
 	NW_CERTIFICATE = 102,
@@ -347,7 +347,7 @@ typedef struct {
 	nw_digest digest;
 } nw_parent;
 
-/* What a checked text is, or what the front of a text says: its kind, the subject of a block, certificate or
+/* What a checked text is, or what its first bytes say: its kind, the subject of a block, certificate or
    vote, and the signer of a vote or of a wrong signature. Fields that the kind does not use are 0. */
 typedef struct {
 	int32_t kind;
@@ -436,8 +436,8 @@ void nw_text_of_block(const nw_digest *digest, nw_block_text *out);
 NW_USE int32_t nw_text_of_vote(const nw_subject *subject, nw_vote_text *out);
 
 /* Writes the message of the signer's vote for the block of this digest, round and author: 107 bytes. Writes
-   this size to needed. Returns NW_SMALL if the buffer is smaller, and NW_BAD_ROUND if the round is not below
-   2^48. It does not check the signature, and needs no memory. */
+   this size to needed. Returns NW_BAD_ROUND if the round is not below 2^48, and NW_SMALL if the buffer is
+   smaller. It does not check the signature, and needs no memory. */
 NW_USE int32_t nw_vote_message(const nw_subject *subject, uint16_t signer, const nw_signature *signature, uint8_t *buffer, size_t buffer_len, size_t *needed);
 
 /* Makes a block of this author and round. transactions has the bytes of all transactions, one after another,
@@ -471,7 +471,7 @@ NW_USE int32_t nw_block_message(const nw_block *block, const nw_signature *signa
    smaller than that, or if lengths has fewer places than the block has transactions (nw_block_counts). */
 NW_USE int32_t nw_block_transactions(const nw_block *block, uint8_t *buffer, size_t buffer_len, uint32_t *lengths, size_t lengths_len, size_t *needed);
 
-/* Writes what the front of the text says: the kind of message, its round and author, the digest of a
+/* Writes what the first bytes of the text say: the kind of message, its round and author, the digest of a
    certificate or vote, and the signer of a vote. A block's digest is not in its text, and is written as 0.
    Reads at most 43 bytes, and neither hashes nor verifies anything: anybody can write these bytes, and the
    text may still be no message. If nw_check accepts the text, the checked message has the same fields.
@@ -486,12 +486,12 @@ NW_USE int32_t nw_check(const nw_committee *committee, const uint8_t *text, size
 /* Writes what the checked text is: a block, a certificate, a vote, or the first rule that it breaks. */
 NW_USE int32_t nw_checked_kind(const nw_checked *checked, nw_message *out);
 
-/* Opens a handle of the checked block. Returns NW_OTHER_KIND if the text is not a valid block. */
+/* Opens a handle of the checked block. Returns NW_OTHER_KIND if the text is no well-formed block. */
 NW_USE int32_t nw_checked_block(const nw_checked *checked, nw_block *out);
 
 /* Writes the message of the checked block, certificate or vote, which can be sent to other members. Writes
    its size to needed. Returns NW_SMALL if the buffer is smaller, and NW_OTHER_KIND if the text is neither a
-   valid block, nor a valid certificate, nor a vote. It needs no memory. */
+   well-formed block, nor a valid certificate, nor a vote. It needs no memory. */
 NW_USE int32_t nw_checked_message(const nw_checked *checked, uint8_t *buffer, size_t buffer_len, size_t *needed);
 
 /* Writes the number of the signer at the index, counted from 0, of the checked certificate. Signers ascend.
@@ -544,7 +544,7 @@ NW_USE int32_t nw_session_id(const nw_session *session, uint16_t *out);
 /* Writes the checked block, or certifies the digest of the checked certificate, as the session's next call.
    Returns NW_BUSY if another thread has the lock: call again. Returns NW_ENDED if the run of the session has
    ended: renew the session. The handle of the checked text stays open, and the text may be handed to other
-   stores. Returns NW_OTHER_KIND if the text is neither a valid block nor a valid certificate. */
+   stores. Returns NW_OTHER_KIND if the text is neither a well-formed block nor a valid certificate. */
 NW_USE int32_t nw_session_hand_in(nw_session *session, const nw_checked *checked, nw_answer *answer);
 
 /* Asks for the certificate of the digest, as the session's next call. */
@@ -614,7 +614,7 @@ NW_USE int32_t nw_session_note(nw_session *session, nw_answer *answer);
    is a prefix of the history of every answer of this session in this run. This is not a call. Returns
    NW_BUSY if another thread has the lock, NW_ENDED if the run of the session has ended, and NW_OTHER_HISTORY
    if the note is no prefix of the run's history, for instance because it is of another store or run. The
-   time grows with the number of events of the note. */
+   time grows with the number of events of the note and with the state that its history started from. */
 NW_USE int32_t nw_session_hear(nw_session *session, const nw_answer *note);
 
 /* Makes a settlement, to which no session is given. */
@@ -627,9 +627,10 @@ NW_USE int32_t nw_settlement_give(nw_settlement *settlement, nw_session *session
 /* Settles the sessions that were given, which must be all that one store made, in the order of their
    numbers, and of the present run. It replaces the content of answer with the run's history, which is an
    interleaving of their calls in this run. The history of each answer to these calls is a prefix of it. The
-   sessions stay with the settlement. Returns NW_UNSETTLED if they are not all sessions of one store or not
-   in order, NW_BUSY if another thread has a store's lock, and NW_ENDED if the run of a session has ended.
-   The time grows with the number of sessions times the number of events. */
+   sessions stay with the settlement. Returns NW_BUSY if another thread has a store's lock, NW_ENDED if the
+   run of a session has ended, and NW_UNSETTLED if they are not all sessions of one store or not in order.
+   For each session, the time grows with the number of events and with the state that the history started
+   from. */
 NW_USE int32_t nw_settle(nw_settlement *settlement, nw_answer *answer);
 
 /* Takes back the session that was given last, which may go on calling. Returns NW_ABSENT if the settlement
@@ -671,7 +672,7 @@ NW_USE int32_t nw_answer_event(const nw_answer *answer, size_t index, nw_event *
 
 /* Writes whether the history of answer is a prefix of the history of other. It is if both have the same
    committee, limits and base, and the first events of other are the events of answer. The time grows with
-   the number of these events. Both handles may be answers, tickets or histories. */
+   the number of these events and with the base. Both handles may be answers, tickets or histories. */
 NW_USE int32_t nw_answer_is_prefix(const nw_answer *answer, const nw_answer *other, bool *out);
 
 /* Writes the digest that the ticket is for, and the garbage round at the call that gave the ticket. */
@@ -779,7 +780,7 @@ static inline const char *nw_code_text(int32_t code)
 	case NW_BAD_ROUND:
 		return "A round is not below 2^48";
 	case NW_SMALL:
-		return "The buffer is too small";
+		return "A buffer or an array is too small";
 	case NW_ABSENT:
 		return "There is nothing at the index, or there is no such value";
 	case NW_OVER_LIMIT:

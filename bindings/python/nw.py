@@ -28,7 +28,7 @@ PATH = os.environ.get("NW_LIBRARY", os.path.normpath(f"{HERE}/../out/libnw.so"))
 try:
     # CDLL releases the interpreter's lock in each call. Then two threads can use one handle at once, which the library does not allow.
     LIBRARY = ctypes.PyDLL(PATH)
-    _ = LIBRARY.nw_interface_7  # Only a library with the functions and structs of this module has it.
+    _ = LIBRARY.nw_interface_7  # Only a library with the functions, structs and codes of this module has it.
 except (OSError, AttributeError) as why:
     raise ImportError(f"{PATH} cannot be loaded: run bindings/python/make, or set NW_LIBRARY to its path") from why
 

@@ -14,8 +14,9 @@ use std::sync::{Arc, OnceLock};
 /// A block: its author, its round, its references to blocks of the preceding round, and its
 /// transactions.
 ///
-/// A clone is a second owner of the same block. Digest, round and author are always at hand. The
-/// first use of the parents or the transactions copies them all, once.
+/// A clone is a second owner of the same block. The first use of a block, also to read its digest
+/// or to clone it, allocates memory. If memory runs out, the process ends, as with `Vec`. The first
+/// use of the parents or the transactions copies them all, once.
 ///
 /// A block made by [`Block::new`] is within the limits of the format, but it is not checked under a
 /// committee. [`Message::check`](crate::Message::check) does that for a signed block.
@@ -74,14 +75,10 @@ impl Block {
     ) -> Result<Block, BlockError> {
         let raw = |&(author, digest)| RawParent { author, digest };
         let parents: Vec<_> = parents.iter().map(raw).collect();
-        let mut lengths = Vec::with_capacity(transactions.len());
-        let mut together = Vec::new();
-        for transaction in transactions {
-            let transaction = transaction.as_ref();
-            lengths.push(u32::try_from(transaction.len()).map_err(|_| BlockError::OverLimit)?);
-            together.extend_from_slice(transaction);
-        }
-        let handle = ffi::block_new(author, round, &parents, &together, &lengths)?;
+        let texts: Vec<&[u8]> = transactions.iter().map(AsRef::as_ref).collect();
+        let lengths: Result<Vec<u32>, _> = texts.iter().map(|text| text.len().try_into()).collect();
+        let lengths = lengths.map_err(|_| BlockError::OverLimit)?;
+        let handle = ffi::block_new(author, round, &parents, &texts.concat(), &lengths)?;
         Ok(Block::at(Source::Own(handle)))
     }
 

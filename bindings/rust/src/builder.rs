@@ -2,7 +2,7 @@
 
 use crate::ffi::{self, Handle, Spare};
 use crate::lock::Lock;
-use crate::room::Content;
+use crate::room::EventContent;
 use crate::store::Inner;
 use crate::turns::Turns;
 use crate::{Committee, Limits, OpenError, Store};
@@ -14,7 +14,7 @@ use std::sync::Arc;
 pub struct StoreBuilder {
     committee: Committee,
     limits: Limits,
-    restart: Option<RestartWhen>,
+    restart_when: Option<RestartWhen>,
     takes_turns: bool,
 }
 
@@ -23,7 +23,7 @@ impl StoreBuilder {
         StoreBuilder {
             committee: committee.clone(),
             limits: Limits::default(),
-            restart: Some(RestartWhen {
+            restart_when: Some(RestartWhen {
                 bytes: Store::HISTORY_BYTES,
                 events: u32::MAX,
             }),
@@ -44,7 +44,7 @@ impl StoreBuilder {
     /// [`Limits::events`], or if the call could raise [`Store::history_bytes`] above `bytes`. So no
     /// call fails with [`StepError::HistoryFull`]. While there is memory for restarts, the history
     /// takes at most `bytes`, except by one event that alone takes more. The largest events are a
-    /// write of 1,048,576 bytes and a list of 65,535 missing parents of 3.1 MB.
+    /// write of 1.05 MB and a list of 65,535 missing parents of 3.1 MB.
     ///
     /// - An answer's history has only the events since the last restart.
     /// - The restart runs inside one call, in the turn of its thread. It copies an entry for each
@@ -59,7 +59,7 @@ impl StoreBuilder {
     /// [`StepError::HistoryFull`]: crate::StepError::HistoryFull
     /// [`StepError::NoMemory`]: crate::StepError::NoMemory
     pub fn restart_when(mut self, bytes: u64, events: u32) -> StoreBuilder {
-        self.restart = Some(RestartWhen { bytes, events });
+        self.restart_when = Some(RestartWhen { bytes, events });
         self
     }
 
@@ -72,7 +72,7 @@ impl StoreBuilder {
     ///
     /// [`StepError::HistoryFull`]: crate::StepError::HistoryFull
     pub fn never_restart(mut self) -> StoreBuilder {
-        self.restart = None;
+        self.restart_when = None;
         self
     }
 
@@ -93,7 +93,7 @@ impl StoreBuilder {
     pub fn open(self) -> Result<Store, OpenError> {
         let mut members = self.committee.share()?;
         let store = Handle::opened(|out| ffi::nw_store_new(&mut members, &self.limits, out))?;
-        let restart = self.restart.map(|when| RestartWhen {
+        let restart_when = self.restart_when.map(|when| RestartWhen {
             events: when.events.min(self.limits.events),
             ..when
         });
@@ -104,7 +104,7 @@ impl StoreBuilder {
                 spare: Arc::new(Spare::new()),
                 committee: self.committee,
                 limits: self.limits,
-                restart,
+                restart_when,
             }),
         })
     }
@@ -120,7 +120,7 @@ pub(crate) struct RestartWhen {
 impl RestartWhen {
     /// Whether a history of these events and bytes restarts before a call with this content.
     #[inline]
-    pub(crate) fn is_met(self, events: usize, bytes: u64, content: Content) -> bool {
+    pub(crate) fn is_met(self, events: usize, bytes: u64, content: EventContent) -> bool {
         let is_over = bytes + content.most() > self.bytes;
         events > 0 && (is_over || events >= self.events as usize)
     }

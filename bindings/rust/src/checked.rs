@@ -1,11 +1,10 @@
 //! Checked messages.
 
 use crate::block::{Source, opened_or_abort};
-use crate::code::{Code, read};
+use crate::code::{Code, find};
 use crate::debug::debug_by;
 use crate::ffi::{self, Handle};
 use crate::lock::Lock;
-use crate::raw::RawMessage;
 use crate::{Block, Subject};
 use std::sync::Arc;
 
@@ -30,7 +29,7 @@ pub enum Checked {
 pub struct CheckedBlock {
     pub(crate) handle: Arc<Lock<Handle>>,
     pub(crate) subject: Subject,
-    /// The bytes of its body.
+    /// The bytes of its message.
     pub(crate) size: u64,
 }
 
@@ -83,15 +82,12 @@ pub struct CheckedCertificate {
 }
 
 impl CheckedCertificate {
-    /// The certificate of a handle.
-    pub(crate) fn of(mut handle: Handle) -> CheckedCertificate {
-        let raw = read(RawMessage::EMPTY, |out| {
-            ffi::nw_checked_kind(&mut handle, out)
-        });
+    /// The certificate of a handle, for this subject.
+    pub(crate) fn of(mut handle: Handle, subject: Subject) -> CheckedCertificate {
         let size = ffi::checked_message_size(&mut handle);
         CheckedCertificate {
             handle: Arc::new(Lock::new(handle)),
-            subject: raw.subject,
+            subject,
             size: size as u64,
         }
     }
@@ -106,11 +102,7 @@ impl CheckedCertificate {
     #[must_use]
     pub fn signers(&self) -> Vec<u16> {
         let mut handle = self.handle.lock();
-        let signer_at = |index| {
-            let mut signer = 0;
-            let code = ffi::nw_checked_signer(&mut handle, index, &mut signer);
-            (code == Code::DONE).then_some(signer)
-        };
+        let signer_at = |index| find(0, |out| ffi::nw_checked_signer(&mut handle, index, out));
         (0..).map_while(signer_at).collect()
     }
 

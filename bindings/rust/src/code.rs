@@ -49,6 +49,15 @@ impl Code {
         }
     }
 
+    /// `None` if the code is `ABSENT`. Any other code ends the process.
+    #[inline]
+    pub(crate) fn none_or_abort<T>(self) -> Option<T> {
+        match self {
+            Code::ABSENT => None,
+            refused => refused.abort(),
+        }
+    }
+
     /// Ends the process as `Vec` does when memory runs out. Never returns, whatever `T` is.
     #[cold]
     pub(crate) fn abort<T>(self) -> T {
@@ -73,6 +82,16 @@ impl Code {
 pub(crate) fn read<T>(mut value: T, call: impl FnOnce(&mut T) -> Code) -> T {
     call(&mut value).or_abort();
     value
+}
+
+/// What a call writes over this value, or `None` if the call returns `ABSENT`. If the call fails,
+/// this ends the process.
+#[inline]
+pub(crate) fn find<T>(mut value: T, call: impl FnOnce(&mut T) -> Code) -> Option<T> {
+    match call(&mut value) {
+        Code::DONE => Some(value),
+        other => other.none_or_abort(),
+    }
 }
 
 #[cfg(test)]

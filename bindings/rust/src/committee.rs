@@ -18,14 +18,6 @@ pub struct Member {
     pub weight: u32,
 }
 
-impl Member {
-    /// A member for the library to write into.
-    const EMPTY: Member = Member {
-        key: PublicKey([0; 32]),
-        weight: 0,
-    };
-}
-
 /// The members that may author blocks and vote for them, with their keys and weights.
 ///
 /// A member's number is its place in the list that the committee is made from. The committee never
@@ -67,7 +59,7 @@ impl Committee {
     pub fn new(members: &[Member]) -> Result<Committee, CommitteeError> {
         let handle = ffi::committee_new(members)?;
         Ok(Committee {
-            inner: Arc::new(Inner::of(handle)),
+            inner: Arc::new(Inner::of(handle, members)),
         })
     }
 
@@ -127,15 +119,9 @@ impl Committee {
 }
 
 impl Inner {
-    fn of(mut handle: Handle) -> Inner {
-        let size = read(0, |out| ffi::nw_committee_size(&mut handle, out));
-        let member = |index| {
-            read(Member::EMPTY, |out| {
-                ffi::nw_committee_member(&mut handle, index, out)
-            })
-        };
+    fn of(mut handle: Handle, members: &[Member]) -> Inner {
         Inner {
-            members: (0..size as u16).map(member).collect(),
+            members: members.into(),
             quorum: read(0, |out| ffi::nw_committee_quorum(&mut handle, out)),
             handle: Lock::new(handle),
         }
@@ -176,7 +162,7 @@ mod tests {
 
     #[test]
     fn what_cannot_be_read_is_not_empty() {
-        refuses(|| Inner::of(closed()));
+        refuses(|| Inner::of(closed(), &[]));
     }
 
     #[test]

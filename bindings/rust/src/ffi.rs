@@ -5,7 +5,7 @@
 
 mod allocator;
 
-use crate::code::Code;
+use crate::code::{Code, find};
 use crate::raw::{RawAuthorLook, RawEvent, RawLook, RawMessage, RawParent, RawTagged};
 use crate::{Digest, Limits, Member, Signature, Status, Subject};
 #[cfg(target_os = "linux")]
@@ -95,7 +95,7 @@ impl Drop for Spare {
 }
 
 /// Ties the crate to the interface of the library that it is made for. The number in the export's
-/// name changes with each change of an export or a struct, so another library does not link.
+/// name changes with each change of an export, a struct or a code, so another library does not link.
 #[used]
 static INTERFACE: extern "C" fn() -> i32 = nw_interface_7;
 
@@ -119,8 +119,6 @@ macro_rules! exports {
 
 exports! {
     nw_committee_share(committee: At, out: At);
-    nw_committee_size(committee: At, out: &mut usize);
-    nw_committee_member(committee: At, index: u16, out: &mut Member);
     nw_committee_quorum(committee: At, out: &mut u32);
     nw_text_of_vote(subject: &Subject, out: &mut [u8; 44]);
 
@@ -307,16 +305,13 @@ pub(crate) fn digest_of(bytes: &[u8]) -> Digest {
     digest
 }
 
-/// What the front of a text says, if it has one.
+/// What the first bytes of a text say, if it begins as a message.
 #[inline]
 pub(crate) fn peek(text: &[u8]) -> Option<RawMessage> {
-    let mut raw = RawMessage::EMPTY;
     // SAFETY: the pointer and the length are those of one slice.
-    match unsafe { nw_peek(text.as_ptr(), text.len(), &mut raw) } {
-        Code::DONE => Some(raw),
-        Code::ABSENT => None,
-        other => other.unexpected(),
-    }
+    find(RawMessage::EMPTY, |out| unsafe {
+        nw_peek(text.as_ptr(), text.len(), out)
+    })
 }
 
 /// Decodes and checks a text.

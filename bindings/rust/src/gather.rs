@@ -91,7 +91,7 @@ impl Gather {
     /// [`GatherError::FewVotes`] if the votes do not reach the quorum.
     pub fn certificate(&mut self) -> Result<CheckedCertificate, GatherError> {
         let handle = Handle::opened(|out| ffi::nw_gather_certificate(&mut self.handle, out))?;
-        Ok(CheckedCertificate::of(handle))
+        Ok(CheckedCertificate::of(handle, self.subject))
     }
 }
 

@@ -1,13 +1,13 @@
 //! The histories that explain answers.
 
 use crate::Event;
-use crate::code::{Code, read};
+use crate::code::{find, read};
 use crate::debug::debug_by;
 use crate::ffi;
+use crate::indexed::iterate_by_index;
 use crate::lock::Lock;
 use crate::raw::RawEvent;
 use crate::room::Room;
-use std::iter::FusedIterator;
 use std::ops::Range;
 use std::ptr;
 use std::sync::MutexGuard;
@@ -78,12 +78,10 @@ impl History {
     /// Returns the event at the index, counted from 0, or `None` past the last one.
     #[must_use]
     pub fn event(&self, index: usize) -> Option<Event> {
-        let mut raw = RawEvent::EMPTY;
-        match ffi::nw_answer_event(&mut self.room(), index, &mut raw) {
-            Code::DONE => Some(Event::of(&raw)),
-            Code::ABSENT => None,
-            refused => refused.abort(),
-        }
+        let raw = find(RawEvent::EMPTY, |out| {
+            ffi::nw_answer_event(&mut self.room(), index, out)
+        });
+        raw.as_ref().map(Event::of)
     }
 
     /// Returns an iterator over the events, from the first.
@@ -147,29 +145,10 @@ pub struct Events<'a> {
     left: Range<usize>,
 }
 
-impl Iterator for Events<'_> {
-    type Item = Event;
-
-    fn next(&mut self) -> Option<Event> {
-        self.left.next().and_then(|index| self.history.event(index))
-    }
-
-    fn size_hint(&self) -> (usize, Option<usize>) {
-        self.left.size_hint()
-    }
-
-    fn nth(&mut self, n: usize) -> Option<Event> {
-        self.left.nth(n).and_then(|index| self.history.event(index))
-    }
-}
-
-impl ExactSizeIterator for Events<'_> {}
-
-impl DoubleEndedIterator for Events<'_> {
-    fn next_back(&mut self) -> Option<Event> {
-        let index = self.left.next_back()?;
+impl Events<'_> {
+    fn at(&self, index: usize) -> Option<Event> {
         self.history.event(index)
     }
 }
 
-impl FusedIterator for Events<'_> {}
+iterate_by_index!(Events<'_>: Event);

@@ -103,6 +103,7 @@ mod fault;
 mod ffi;
 mod gather;
 mod history;
+mod indexed;
 mod intake;
 mod limits;
 mod lock;

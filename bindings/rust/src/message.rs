@@ -4,9 +4,7 @@ use crate::code::read;
 use crate::ffi::{self, Handle};
 use crate::lock::Lock;
 use crate::raw::RawMessage;
-use crate::{
-    CheckError, Checked, CheckedBlock, CheckedCertificate, CheckedVote, Committee, Peek, Signature,
-};
+use crate::{CheckError, Checked, CheckedBlock, CheckedCertificate, CheckedVote, Committee, Peek};
 use std::sync::Arc;
 
 /// The messages that validators send one another: signed blocks, certificates and votes.
@@ -64,9 +62,6 @@ impl Message {
     }
 }
 
-/// The bytes of a block's message around its body: the tag and the signature.
-const AROUND_A_BODY: u64 = 1 + size_of::<Signature>() as u64;
-
 /// Checks a message under the committee of the handle.
 pub(crate) fn check_with(committee: &mut Handle, message: &[u8]) -> Result<Checked, CheckError> {
     let mut handle = ffi::check(committee, message)?;
@@ -74,17 +69,17 @@ pub(crate) fn check_with(committee: &mut Handle, message: &[u8]) -> Result<Check
         ffi::nw_checked_kind(&mut handle, out)
     });
     let (handle, subject) = (Arc::new(Lock::new(handle)), raw.subject);
-    let length = message.len() as u64;
+    let size = message.len() as u64;
     match Peek::of(&raw) {
         Some(Peek::Block { .. }) => Ok(Checked::Block(CheckedBlock {
             handle,
             subject,
-            size: length - AROUND_A_BODY,
+            size,
         })),
         Some(Peek::Certificate(_)) => Ok(Checked::Certificate(CheckedCertificate {
             handle,
             subject,
-            size: length,
+            size,
         })),
         Some(Peek::Vote { signer, .. }) => Ok(Checked::Vote(CheckedVote {
             handle,

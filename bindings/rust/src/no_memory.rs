@@ -6,7 +6,8 @@ use crate::settled::Given;
 use crate::{
     AgreeError, Block, BlockError, Causal, CheckError, Checked, CheckedBlock, CheckedCertificate,
     CheckedVote, Committee, CommitteeError, Digest, Gather, GatherError, History, Limits, Message,
-    NoMemory, OpenError, Reply, Session, SettleError, Status, StepError, Store, Ticket, check_all,
+    NoMemory, OpenError, Reply, Session, SettleError, Status, StepError, Store, Subject, Ticket,
+    check_all,
 };
 use std::cell::Cell;
 use std::ffi::c_void;
@@ -385,7 +386,10 @@ fn what_cannot_be_read_is_not_empty() {
     refuses(|| Ticket::new(closed_room()).walk());
     refuses(|| Causal::of(closed_room()));
     refuses(|| Reply::read(&mut closed()));
-    refuses(|| CheckedCertificate::of(closed()));
+    refuses(|| CheckedCertificate::of(closed(), Subject::EMPTY));
+    let certificate = World::new().certificate;
+    drop(certificate.handle.lock().take());
+    refuses(|| certificate.signers());
 }
 
 /// Refuses each allocation of a call that is about to restart the history. Returns the outcomes,

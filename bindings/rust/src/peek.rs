@@ -107,10 +107,10 @@ mod tests {
     };
 
     #[test]
-    fn fronts_are_those_of_the_checked_messages() {
+    fn peeks_are_those_of_the_checked_messages() {
         let committee = Committee::equal(&data::keys()).unwrap();
         for message in data::values("message") {
-            let front = match Message::check(&committee, &message).unwrap() {
+            let peek = match Message::check(&committee, &message).unwrap() {
                 Checked::Block(block) => Peek::Block {
                     round: block.subject().round,
                     author: block.subject().author,
@@ -121,12 +121,12 @@ mod tests {
                     signer: vote.signer(),
                 },
             };
-            assert_eq!(Message::peek(&message), Some(front));
+            assert_eq!(Message::peek(&message), Some(peek));
         }
     }
 
     #[test]
-    fn fronts_end_after_their_last_field() {
+    fn peeks_end_after_their_last_field() {
         let signature = Signature([7; 64]);
         let subject = Subject {
             digest: Digest([9; 32]),
@@ -136,15 +136,15 @@ mod tests {
         let vote = vote_message(&subject, 7, &signature).unwrap();
         let block = Block::new(258, subject.round, &[], &[b"x"]).unwrap();
         let (round, author) = (subject.round, subject.author);
-        let fronts = [
+        let peeks = [
             (block.message(&signature), 10, Peek::Block { round, author }),
             ([&[2], &vote[1..]].concat(), 41, Peek::Certificate(subject)),
             (vote, 43, Peek::Vote { subject, signer: 7 }),
         ];
-        for (message, size, front) in fronts {
-            assert_eq!((front.round(), front.author()), (round, author));
+        for (message, size, peek) in peeks {
+            assert_eq!((peek.round(), peek.author()), (round, author));
             for len in 0..=message.len() {
-                let wanted = (len >= size).then_some(front);
+                let wanted = (len >= size).then_some(peek);
                 assert_eq!(Message::peek(&message[..len]), wanted);
             }
         }

@@ -39,7 +39,7 @@ impl Room {
     }
 
     /// Replaces the answer by new room, and returns the answer.
-    pub(crate) fn renew(&mut self) -> Result<Handle, Code> {
+    pub(crate) fn replace(&mut self) -> Result<Handle, Code> {
         let new = Handle::answer()?;
         Ok(mem::replace(&mut self.handle, new))
     }
@@ -81,35 +81,35 @@ impl Drop for Room {
 
 /// What the event of a call holds in the history.
 #[derive(Clone, Copy)]
-pub(crate) enum Content {
+pub(crate) enum EventContent {
     /// Only numbers and digests, of a call that changes nothing.
     Small,
     /// The numbers of a collection.
     Collection,
-    /// A block or a certificate: the bytes of the block's body, or of the certificate's message.
+    /// A block or a certificate, whose message has this many bytes.
     HandedIn(u64),
     /// A list of at most this many missing parents.
     Parents(u16),
 }
 
-impl Content {
+impl EventContent {
     /// A list of missing parents of one block: at most one of each member of the largest committee.
-    pub(crate) const PARENTS_OF_ONE: Content = Content::Parents(100);
+    pub(crate) const PARENTS_OF_ONE: EventContent = EventContent::Parents(100);
     /// The bytes of any event.
     const EVENT: u64 = 150;
-    /// The bytes around a body or a certificate.
-    const HANDED_IN: u64 = 150;
+    /// The bytes of a block or a certificate beside its message.
+    const HANDED_IN: u64 = 100;
     /// The bytes of a listed parent.
     const PARENT: u64 = 48;
 
     /// The most bytes that the event can take.
     #[inline]
     pub(crate) fn most(self) -> u64 {
-        Content::EVENT
+        EventContent::EVENT
             + match self {
-                Content::Small | Content::Collection => 0,
-                Content::HandedIn(bytes) => Content::HANDED_IN + bytes,
-                Content::Parents(most) => Content::PARENT * u64::from(most),
+                EventContent::Small | EventContent::Collection => 0,
+                EventContent::HandedIn(bytes) => EventContent::HANDED_IN + bytes,
+                EventContent::Parents(most) => EventContent::PARENT * u64::from(most),
             }
     }
 
@@ -118,14 +118,14 @@ impl Content {
     /// `Clash`.
     #[inline]
     pub(crate) fn outcome(self, answer: &mut Handle) -> (u64, bool) {
-        if let Content::Small = self {
+        if let EventContent::Small = self {
             return (self.most(), false);
         }
         let (held, is_change) = match Reply::read(answer) {
             Reply::Stored { .. } | Reply::Certified | Reply::Raised { .. } => (self, true),
             Reply::Clash => (self, false),
-            Reply::Missing { listed } => (Content::Parents(listed as u16), false),
-            _ => (Content::Small, false),
+            Reply::Missing { listed } => (EventContent::Parents(listed as u16), false),
+            _ => (EventContent::Small, false),
         };
         (held.most(), is_change)
     }

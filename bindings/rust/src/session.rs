@@ -8,7 +8,7 @@ use crate::debug::debug_by;
 use crate::ffi::{self, Handle};
 use crate::lock::Lock;
 use crate::raw::{RawAuthorLook, RawLook, unexpected_kind};
-use crate::room::{Content, Room};
+use crate::room::{EventContent, Room};
 use crate::store::Inner;
 use crate::{Block, Causal, CertifyReply, CheckedBlock, CheckedCertificate, CollectReply, Digest};
 use crate::{Look, NoMemory, Note, Reply, Status, StepError, Subject, WriteReply};
@@ -60,8 +60,10 @@ impl Session {
         self.id
     }
 
-    /// Returns the number of the run in which the session made its last call, look or note. The first
-    /// run of a store has number 0.
+    /// Returns the number of the run that the session is in. The first run of a store has number 0.
+    ///
+    /// A session is in the store's present run when it is made, and after it restarts. If another
+    /// session restarts, this one enters the new run with its next call, look, note or settlement.
     ///
     /// Of two answers of one run, the history of one is a prefix of that of the other.
     #[must_use]
@@ -141,7 +143,7 @@ impl Session {
     ///
     /// Those that every call can have.
     pub fn certificate(&mut self, digest: &Digest) -> Result<Answer<Option<Vec<u8>>>, StepError> {
-        let answer = self.step(Content::Small, |session, answer| {
+        let answer = self.step(EventContent::Small, |session, answer| {
             ffi::nw_session_certificate(session, digest, answer)
         })?;
         Ok(Answer::new(answer, |answer, _| certificate_of(answer)))
@@ -153,7 +155,7 @@ impl Session {
     ///
     /// Those that every call can have.
     pub fn read(&mut self, digest: &Digest) -> Result<Answer<Option<Block>>, StepError> {
-        let answer = self.step(Content::Small, |session, answer| {
+        let answer = self.step(EventContent::Small, |session, answer| {
             ffi::nw_session_read(session, digest, answer)
         })?;
         Ok(Answer::new(answer, block_of))
@@ -171,20 +173,8 @@ impl Session {
     ///
     /// ```
     /// # mod data { include!(concat!(env!("CARGO_MANIFEST_DIR"), "/examples/data/mod.rs")); }
-    /// # use narwhal_store::{Checked, Committee, Limits, Message, Store};
-    /// # let committee = Committee::equal(&data::keys())?;
-    /// # let mut session = Store::new(&committee, Limits::default())?.session()?;
-    /// # let mut last = narwhal_store::Digest([0; 32]);
-    /// # for message in data::values("message") {
-    /// #     match Message::check(&committee, &message)? {
-    /// #         Checked::Block(block) => drop(session.write(&block)?),
-    /// #         Checked::Certificate(certificate) => {
-    /// #             drop(session.certify(&certificate)?);
-    /// #             last = certificate.subject().digest;
-    /// #         }
-    /// #         Checked::Vote(_) => {}
-    /// #     }
-    /// # }
+    /// # let (mut session, certified) = data::filled()?;
+    /// # let last = certified[certified.len() - 1];
     /// use narwhal_store::{Causal, CausalFault, Digest};
     ///
     /// // `last` is the digest of the block that was certified last.
@@ -197,7 +187,7 @@ impl Session {
     /// # Ok::<(), Box<dyn std::error::Error>>(())
     /// ```
     pub fn causal(&mut self, digest: &Digest) -> Result<Causal, StepError> {
-        let answer = self.step(Content::Small, |session, answer| {
+        let answer = self.step(EventContent::Small, |session, answer| {
             ffi::nw_session_open(session, digest, answer)
         })?;
         Ok(Causal::of(answer))
@@ -216,7 +206,7 @@ impl Session {
     ///
     /// [`StepError::BadRound`] if the round is 2^48 or more.
     pub fn collect(&mut self, round: u64) -> Result<Answer<CollectReply>, StepError> {
-        let answer = self.step(Content::Collection, |session, answer| {
+        let answer = self.step(EventContent::Collection, |session, answer| {
             ffi::nw_session_collect(session, round, answer)
         })?;
         Ok(Answer::new(answer, |answer, _| CollectReply::read(answer)))
@@ -232,7 +222,7 @@ impl Session {
     ///
     /// Those that every call can have.
     pub fn missing(&mut self, most: u16) -> Result<Answer<Vec<Subject>>, StepError> {
-        let answer = self.step(Content::Parents(most), |session, answer| {
+        let answer = self.step(EventContent::Parents(most), |session, answer| {
             ffi::nw_session_missing(session, most, answer)
         })?;
         Ok(Answer::new(answer, |answer, _| subjects_of(answer)))
@@ -266,7 +256,7 @@ impl Session {
         &mut self,
         digest: &Digest,
     ) -> Result<Answer<Option<Vec<Subject>>>, StepError> {
-        let answer = self.step(Content::PARENTS_OF_ONE, |session, answer| {
+        let answer = self.step(EventContent::PARENTS_OF_ONE, |session, answer| {
             ffi::nw_session_missing_of(session, digest, answer)
         })?;
         Ok(Answer::new(answer, |answer, _| missing_of(answer)))
@@ -278,7 +268,7 @@ impl Session {
     ///
     /// Those that every call can have.
     pub fn status(&mut self) -> Result<Answer<Status>, StepError> {
-        let answer = self.step(Content::Small, |session, answer| {
+        let answer = self.step(EventContent::Small, |session, answer| {
             ffi::nw_session_status(session, answer)
         })?;
         Ok(Answer::new(answer, |answer, _| status_of(answer)))
@@ -408,7 +398,8 @@ impl Session {
     /// - `false`: the note is of another store, or of a run that a [restart](Session::restart) ended.
     ///   Nothing changes.
     ///
-    /// This takes time in proportion to the events of the note, and holds up no call meanwhile.
+    /// This takes time in proportion to the events of the note, and to the state that its history
+    /// started from. It holds up no call meanwhile.
     ///
     /// # Errors
     ///
@@ -455,22 +446,21 @@ impl Session {
     /// # Ok::<(), Box<dyn std::error::Error>>(())
     /// ```
     pub fn restart(&mut self) -> Result<Note, StepError> {
-        let mut last = Handle::answer()?;
         let mut turn = self.store.turns.take();
-        let restart = |session: &mut _| ffi::nw_session_restart(session, &mut last);
-        let code = turn.call(&mut self.caller, restart);
-        turn.enter(&mut self.caller);
-        drop(turn);
-        // A dropped answer has a part of the old history.
-        drop(self.store.spare.take());
-        code.done()?;
-        Ok(Note::new(last))
+        loop {
+            let last = Handle::answer()?;
+            let old = self.store.restart(&mut turn, &mut self.caller, last)?;
+            if let Some([last, _spare]) = old {
+                drop(turn);
+                return Ok(Note::new(last));
+            }
+        }
     }
 
-    /// Hands in a block or a certificate. `size` is that of [`Content::HandedIn`].
+    /// Hands in a block or a certificate, whose message has this size.
     fn hand_in(&mut self, size: u64, checked: &Lock<Handle>) -> Result<Room, StepError> {
         let mut checked = checked.lock();
-        self.step(Content::HandedIn(size), |session, answer| {
+        self.step(EventContent::HandedIn(size), |session, answer| {
             ffi::nw_session_hand_in(session, &mut checked, answer)
         })
     }
@@ -480,7 +470,7 @@ impl Session {
     #[inline]
     fn step(
         &mut self,
-        content: Content,
+        content: EventContent,
         call: impl FnMut(&mut Handle, &mut Handle) -> Code,
     ) -> Result<Room, StepError> {
         let mut room = Room::new(&self.store.spare)?;
@@ -497,11 +487,7 @@ impl Session {
 
 /// The message of the certificate that was found.
 fn certificate_of(answer: &mut Handle) -> Option<Vec<u8>> {
-    match ffi::answer_message(answer) {
-        Ok(message) => Some(message),
-        Err(Code::ABSENT) => None,
-        Err(refused) => refused.abort(),
-    }
+    ffi::answer_message(answer).map_or_else(Code::none_or_abort, Some)
 }
 
 /// The block that was found. If this is the answer's last use, the block takes the answer.

@@ -28,8 +28,9 @@ impl Store {
     /// No session of the store can be left out, so do not drop one before. A session that made no
     /// call since the last [restart](Session::restart) has no calls in the history.
     ///
-    /// This takes time in proportion to the sessions times the events. If memory runs out while the
-    /// sessions are given back, the process ends, as with `Vec`.
+    /// For each session, this takes time in proportion to the events, and to the state that the
+    /// history started from. If memory runs out while the sessions are given back, the process ends,
+    /// as with `Vec`.
     ///
     /// # Errors
     ///

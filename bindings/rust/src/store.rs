@@ -5,7 +5,7 @@ use crate::caller::{Caller, again};
 use crate::code::Code;
 use crate::ffi::{self, Handle, Spare};
 use crate::lock::Lock;
-use crate::room::{Content, Room};
+use crate::room::{EventContent, Room};
 use crate::turns::{Turn, Turns};
 use crate::{Committee, Limits, NoMemory, OpenError, Session, StepError, StoreBuilder};
 use std::fmt;
@@ -69,10 +69,11 @@ pub(crate) struct Inner {
     pub(crate) spare: Arc<Spare>,
     pub(crate) committee: Committee,
     pub(crate) limits: Limits,
-    pub(crate) restart: Option<RestartWhen>,
+    pub(crate) restart_when: Option<RestartWhen>,
 }
 
-/// What a restart leaves of the old history. It is dropped after the turn.
+/// What a restart leaves of the old history: the whole, and the spare answer, which can share it.
+/// They are dropped after the turn, because they are often its last owners.
 type Old = [Handle; 2];
 
 impl Store {
@@ -161,8 +162,8 @@ impl Store {
     /// This is an estimate from above, without the overhead of the allocator:
     ///
     /// - 150 bytes for each event;
-    /// - 150 bytes and the body for each block that was stored, or whose reply was `Clash`;
-    /// - 150 bytes and the message for each certificate that was stored;
+    /// - 100 bytes and the message for each certificate or block that was stored, and for each block
+    ///   whose reply was `Clash`;
     /// - 48 bytes for each listed missing parent.
     ///
     /// It counts a block that the history shares with the tables. It does not count the state that
@@ -253,7 +254,7 @@ impl Inner {
     pub(crate) fn step(
         &self,
         caller: &mut Caller,
-        content: Content,
+        content: EventContent,
         room: &mut Room,
         mut call: impl FnMut(&mut Handle, &mut Handle) -> Code,
     ) -> Result<(), StepError> {
@@ -264,8 +265,9 @@ impl Inner {
         }
         let mut code = turn.call(caller, |session| call(session, room));
         // Without turns, the history can be full before all its events are counted.
-        while code == Code::HISTORY_FULL && self.restart.is_some() && old.is_ok() {
-            old = self.restart(&mut turn, caller, room);
+        while code == Code::HISTORY_FULL && self.restart_when.is_some() && old.is_ok() {
+            let replaced = room.replace();
+            old = replaced.and_then(|last| self.restart(&mut turn, caller, last));
             code = turn.call(caller, |session| call(session, room));
         }
         let wakes = code == Code::DONE && {
@@ -284,11 +286,11 @@ impl Inner {
 
     /// Whether the history restarts before a call with this content.
     #[inline]
-    fn is_due(&self, turn: &mut Turn, content: Content) -> bool {
+    fn is_due(&self, turn: &mut Turn, content: EventContent) -> bool {
         let is_met = |when: RestartWhen| {
             turn.counts(|counts| when.is_met(counts.events, counts.bytes, content))
         };
-        self.restart.is_some_and(is_met)
+        self.restart_when.is_some_and(is_met)
     }
 
     /// Restarts the history until the call with this content fits.
@@ -297,27 +299,25 @@ impl Inner {
         &self,
         turn: &mut Turn,
         caller: &mut Caller,
-        content: Content,
+        content: EventContent,
         room: &mut Room,
     ) -> Result<Option<Old>, Code> {
         let mut old = None;
         while self.is_due(turn, content) {
-            old = self.restart(turn, caller, room)?;
+            old = self.restart(turn, caller, room.replace()?)?;
         }
         Ok(old)
     }
 
-    /// Ends the session's run, and returns what is left of its history. The caller drops it after
-    /// the turn: it is often the last owner of that history. If the run has ended already, this
-    /// takes the session into the present run instead.
+    /// Ends the session's run, and returns what is left of its history, of which `last` gets the
+    /// whole. If the run has ended already, this takes the session into the present run instead.
     #[cold]
-    fn restart(
+    pub(crate) fn restart(
         &self,
         turn: &mut Turn,
         caller: &mut Caller,
-        room: &mut Room,
+        mut last: Handle,
     ) -> Result<Option<Old>, Code> {
-        let mut last = room.renew()?;
         let code = caller.call(|session| ffi::nw_session_restart(session, &mut last));
         if code == Code::ENDED {
             turn.renew(caller).done()?;
@@ -333,7 +333,7 @@ impl fmt::Debug for Store {
     fn fmt(&self, f: &mut fmt::Formatter<'_>) -> fmt::Result {
         f.debug_struct("Store")
             .field("limits", &self.inner.limits)
-            .field("restart", &self.inner.restart)
+            .field("restart_when", &self.inner.restart_when)
             .finish_non_exhaustive()
     }
 }
@@ -342,7 +342,7 @@ impl fmt::Debug for Store {
 mod tests {
     use crate::ffi;
     use crate::lock::tests::panic_under;
-    use crate::room::{Content, Room};
+    use crate::room::{EventContent, Room};
     use crate::{Committee, Digest, Limits, PublicKey, Session, StepError, Store};
     use std::sync::Mutex;
     use std::thread;
@@ -477,7 +477,7 @@ mod tests {
         let status = |own: &mut _, answer: &mut _| ffi::nw_session_status(own, answer);
         let stepped = store
             .inner
-            .step(&mut session.caller, Content::Small, &mut room, status);
+            .step(&mut session.caller, EventContent::Small, &mut room, status);
         stepped.unwrap();
         assert_eq!(store.events(), 1);
         assert!(store.inner.spare.take().is_closed());

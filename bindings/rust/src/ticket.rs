@@ -49,23 +49,23 @@ impl Ticket {
     /// Returns the garbage round at the call that opened the ticket. The list has no blocks of
     /// rounds below it.
     #[must_use]
-    pub fn floor(&self) -> u64 {
+    pub fn garbage_round(&self) -> u64 {
         self.about().1
     }
 
     fn about(&self) -> (Digest, u64) {
-        let (mut digest, mut floor) = (Digest::ZERO, 0);
+        let (mut digest, mut garbage_round) = (Digest::ZERO, 0);
         let handle = &mut self.history.room();
-        ffi::nw_ticket_scope(handle, &mut digest, &mut floor).or_abort();
-        (digest, floor)
+        ffi::nw_ticket_scope(handle, &mut digest, &mut garbage_round).or_abort();
+        (digest, garbage_round)
     }
 
     /// Lists the block and its certified ancestors of rounds not below the garbage round, as of the
     /// call that opened the ticket. The order is ascending by round and author.
     ///
     /// Every walk of a ticket returns the same list. So do walks of all tickets for the same digest
-    /// with the same [`floor`](Ticket::floor), of any store, unless two blocks have the same
-    /// digest.
+    /// with the same [`garbage_round`](Ticket::garbage_round), of any store, unless two blocks have
+    /// the same digest.
     ///
     /// # Errors
     ///
@@ -73,20 +73,8 @@ impl Ticket {
     ///
     /// ```
     /// # mod data { include!(concat!(env!("CARGO_MANIFEST_DIR"), "/examples/data/mod.rs")); }
-    /// # use narwhal_store::{Checked, Committee, Limits, Message, Store};
-    /// # let committee = Committee::equal(&data::keys())?;
-    /// # let mut session = Store::new(&committee, Limits::default())?.session()?;
-    /// # let mut last = narwhal_store::Digest([0; 32]);
-    /// # for message in data::values("message") {
-    /// #     match Message::check(&committee, &message)? {
-    /// #         Checked::Block(block) => drop(session.write(&block)?),
-    /// #         Checked::Certificate(certificate) => {
-    /// #             drop(session.certify(&certificate)?);
-    /// #             last = certificate.subject().digest;
-    /// #         }
-    /// #         Checked::Vote(_) => {}
-    /// #     }
-    /// # }
+    /// # let (mut session, certified) = data::filled()?;
+    /// # let last = certified[certified.len() - 1];
     /// let ticket = session.causal(&last)?.into_ticket()?;
     /// drop(session.collect(1)?); // It drops the blocks of round 0, but not from the ticket.
     /// let walker = std::thread::spawn(move || ticket.walk());
@@ -116,20 +104,7 @@ impl Ticket {
     ///
     /// ```
     /// # mod data { include!(concat!(env!("CARGO_MANIFEST_DIR"), "/examples/data/mod.rs")); }
-    /// # use narwhal_store::{Checked, Committee, Limits, Message, Store};
-    /// # let committee = Committee::equal(&data::keys())?;
-    /// # let mut session = Store::new(&committee, Limits::default())?.session()?;
-    /// # let mut certified = Vec::new();
-    /// # for message in data::values("message") {
-    /// #     match Message::check(&committee, &message)? {
-    /// #         Checked::Block(block) => drop(session.write(&block)?),
-    /// #         Checked::Certificate(certificate) => {
-    /// #             drop(session.certify(&certificate)?);
-    /// #             certified.push(certificate.subject().digest);
-    /// #         }
-    /// #         Checked::Vote(_) => {}
-    /// #     }
-    /// # }
+    /// # let (mut session, certified) = data::filled()?;
     /// // `certified` are the digests of a chain of certified blocks, in order.
     /// let first = session.causal(&certified[0])?.into_ticket()?;
     /// let last = session.causal(certified.last().unwrap())?.into_ticket()?;
@@ -151,7 +126,7 @@ impl Ticket {
     }
 
     /// Returns whether two tickets have equal lists. They must be for the same digest with the same
-    /// [`floor`](Ticket::floor), and may come from two stores.
+    /// [`garbage_round`](Ticket::garbage_round), and may come from two stores.
     ///
     /// The lists are always equal, unless two different blocks have the same digest.
     ///
@@ -182,7 +157,7 @@ fn agreement(code: Code, same: bool) -> Result<bool, AgreeError> {
     Ok(same)
 }
 
-debug_by!(Ticket: digest, floor);
+debug_by!(Ticket: digest, garbage_round);
 
 /// Why two tickets cannot be compared.
 #[derive(Clone, Copy, Debug, PartialEq, Eq)]

@@ -179,7 +179,7 @@ fn events_and_walks_go_each_way() {
 }
 
 #[test]
-fn tickets_of_two_blocks_or_floors_are_not_compared() {
+fn tickets_of_two_blocks_or_garbage_rounds_are_not_compared() {
     let com = Com::new(1);
     let (mut session, subjects) = chain(&com, 3);
     let [low, high, again] = [1, 2, 2].map(|round: usize| ticket(&mut session, &subjects[round]));
@@ -188,7 +188,7 @@ fn tickets_of_two_blocks_or_floors_are_not_compared() {
     drop(session.collect(1).expect("a collection"));
     let collected = ticket(&mut session, &subjects[2]);
     assert_eq!(high.agrees(&collected), Err(AgreeError::NotComparable));
-    assert_eq!((high.floor(), collected.floor()), (0, 1));
+    assert_eq!((high.garbage_round(), collected.garbage_round()), (0, 1));
 }
 
 /// A store with some sessions.

@@ -1,4 +1,4 @@
--- Checked texts and the fronts of texts, as C sees them.
+-- Checked texts and peeks at texts, as C sees them.
 use Rattle.std.specs.Prelude.{◌≡◌, ℤ, pos, replicate}
 use Rattle.nw_digest.specs.declared.digest.Digest.{Digest}
 use Rattle.nw_codec.specs.Subject.{block_subject, certificate_subject, vote_subject}
@@ -63,8 +63,8 @@ IsMessageOf (checked.BadCert fault) m = m.kind ≡ cert_kind fault
 abbrev pub no_digest : Digest
 no_digest = record { 0 = replicate 32 0 }
 
--- m is what the front says: a block with its round and author, a certificate with its subject, or a vote with its subject and signer
-abbrev pub IsFrontOf : Peek → CMessage → Type 0
-IsFrontOf (peeks.Block round author) m = (m.kind ≡ BLOCK) × (m.subject ≡ subject_of (record { digest = no_digest; round = round; author = author }))
-IsFrontOf (peeks.Certificate s) m = (m.kind ≡ CERTIFICATE) × (m.subject ≡ subject_of s)
-IsFrontOf (peeks.Vote s signer) m = (m.kind ≡ VOTE) × (m.subject ≡ subject_of s) × (m.signer ≡ signer)
+-- m is what the peek says: a block with its round and author, a certificate with its subject, or a vote with its subject and signer
+abbrev pub IsPeekOf : Peek → CMessage → Type 0
+IsPeekOf (peeks.Block round author) m = (m.kind ≡ BLOCK) × (m.subject ≡ subject_of (record { digest = no_digest; round = round; author = author }))
+IsPeekOf (peeks.Certificate s) m = (m.kind ≡ CERTIFICATE) × (m.subject ≡ subject_of s)
+IsPeekOf (peeks.Vote s signer) m = (m.kind ≡ VOTE) × (m.subject ≡ subject_of s) × (m.signer ≡ signer)

@@ -72,7 +72,7 @@ pub extern "C" fn nw_checked_kind(checked: &mut CheckedHandle, out: &mut CMessag
     }
 }
 
-/// Opens a handle of the checked block. Returns `NW_OTHER_KIND` if the text is not a valid block.
+/// Opens a handle of the checked block. Returns `NW_OTHER_KIND` if the text is no well-formed block.
 #[unsafe(no_mangle)]
 pub extern "C" fn nw_checked_block(
     alloc: Global,
@@ -106,7 +106,7 @@ pub extern "C" fn nw_checked_block(
 }
 
 /// Writes the message of the checked block, certificate or vote, which can be sent to other members. Writes its size to `needed`. Returns
-/// `NW_SMALL` if the buffer is smaller, and `NW_OTHER_KIND` if the text is neither a valid block, nor a valid certificate, nor a vote. It
+/// `NW_SMALL` if the buffer is smaller, and `NW_OTHER_KIND` if the text is neither a well-formed block, nor a valid certificate, nor a vote. It
 /// needs no memory.
 #[unsafe(no_mangle)]
 pub extern "C" fn nw_checked_message(

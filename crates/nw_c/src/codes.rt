@@ -27,7 +27,7 @@ pub(crate) const OTHER_COMMITTEE: i32 = 8;
 pub(crate) const HISTORY_FULL: i32 = 9;
 /// A round is not below 2^48.
 pub(crate) const BAD_ROUND: i32 = 10;
-/// The buffer is too small. Only the needed size was written.
+/// A buffer or an array is too small. Only the needed size was written.
 pub(crate) const SMALL: i32 = 11;
 /// There is nothing at the index, or there is no such value.
 pub(crate) const ABSENT: i32 = 12;

@@ -133,8 +133,8 @@ pub extern "C" fn nw_answer_event(answer: &mut AnswerHandle, index: usize, out: 
 }
 
 /// Writes whether the history of `answer` is a prefix of the history of `other`. It is if both have the same committee, limits and base, and the
-/// first events of `other` are the events of `answer`. The time grows with the number of these events. Both handles may be answers,
-/// tickets or histories.
+/// first events of `other` are the events of `answer`. The time grows with the number of these events and with the base. Both
+/// handles may be answers, tickets or histories.
 #[unsafe(no_mangle)]
 pub extern "C" fn nw_answer_is_prefix(
     answer: &mut AnswerHandle,

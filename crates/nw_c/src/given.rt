@@ -7,7 +7,7 @@ ghost use Rattle.nw_shared_store.specs.Settlement.{kept};
 
 use nw_ed25519::Ed25519;
 use nw_history::Front;
-use nw_shared_store::{SharedSession, Unsettled, settle};
+use nw_shared_store::{SettleFault, SharedSession, settle};
 use std::alloc::Global;
 use std::marker::Model;
 
@@ -65,7 +65,7 @@ impl Given {
     }
 
     /// Settles the sessions. The error is that of `settle`.
-    pub(crate) fn settle(&mut self) -> Result<Front<Ed25519>, Unsettled>
+    pub(crate) fn settle(&mut self) -> Result<Front<Ed25519>, SettleFault>
         ensures settled { IfOk result (λ history. AreSettled history (map (λ s. s.journal) self.new)) }
         ensures of_store { IfOk result (λ history.
             All (λ s. IsHistoryOf accepts (origin_of s.first) history) self.new) }

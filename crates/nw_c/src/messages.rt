@@ -10,7 +10,7 @@ use nw_decode::DecodeError;
 use nw_digest::{Digest, Round};
 use nw_ed25519::Ed25519;
 
-/// A block. A checked one is valid.
+/// A block. A checked one is well formed.
 pub(crate) const BLOCK: i32 = 101;
 /// A certificate. A checked one is valid.
 pub(crate) const CERTIFICATE: i32 = 102;
@@ -57,7 +57,7 @@ pub(crate) const CERT_FEW_VOTES: i32 = 142;
 /// The signature of `signer` is not that member's. All signatures before it are correct.
 pub(crate) const CERT_SIGNATURE: i32 = 143;
 
-/// What a checked text is, or what the front of a text says: its kind, the subject of a block, certificate or vote, and the signer of a vote
+/// What a checked text is, or what its first bytes say: its kind, the subject of a block, certificate or vote, and the signer of a vote
 /// or of a wrong signature. Fields that the kind does not use are 0.
 #[repr(C)]
 #[derive(Clone, Copy)]
@@ -153,7 +153,12 @@ pub(crate) fn message_of(checked: &Checked<Ed25519>) -> CMessage
         Checked::Vote(vote) => about(VOTE, vote.signer, &vote.subject()),
         Checked::BadText(fault) => faulty(kind_of_text(*fault), 0),
         Checked::BadBlock(fault) => faulty(kind_of_block(*fault), 0),
-        Checked::BadCert(CertFault::Signature { signer }) => faulty(CERT_SIGNATURE, *signer),
-        Checked::BadCert(fault) => faulty(kind_of_cert(fault), 0),
+        Checked::BadCert(fault) => {
+            let signer = match fault {
+                CertFault::Signature { signer } => *signer,
+                _ => 0,
+            };
+            faulty(kind_of_cert(fault), signer)
+        }
     }
 }

@@ -48,7 +48,8 @@ pub extern "C" fn nw_session_note(session: &mut SessionHandle, answer: &mut Answ
 /// Hears a note of another session of the same run, or an answer or ticket of it. From then on, its history is a prefix of the history of
 /// every answer of this session in this run. This is not a call. Returns `NW_BUSY` if another thread has the lock, `NW_ENDED` if the run of
 /// the session has ended, and `NW_OTHER_HISTORY` if the note is no prefix of the run's history, for instance because it is of another store
-/// or run. The time grows with the number of events of the note.
+/// or run. The time grows with the number of events of the note and with
+/// the state that its history started from.
 #[unsafe(no_mangle)]
 pub extern "C" fn nw_session_hear(session: &mut SessionHandle, note: &mut AnswerHandle) -> i32
     ensures heard { result ≡ pos 0 → KnowsNote session.new.value (front_in note.old.value) }

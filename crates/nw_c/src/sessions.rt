@@ -81,7 +81,7 @@ pub(crate) fn call(
 
 /// Writes the checked block, or certifies the digest of the checked certificate, as the session's next call. Returns `NW_BUSY` if another
 /// thread has the lock: call again. Returns `NW_ENDED` if the run of the session has ended: renew the session. The handle of the checked text
-/// stays open, and the text may be handed to other stores. Returns `NW_OTHER_KIND` if the text is neither a valid block nor a valid
+/// stays open, and the text may be handed to other stores. Returns `NW_OTHER_KIND` if the text is neither a well-formed block nor a valid
 /// certificate.
 #[unsafe(no_mangle)]
 pub extern "C" fn nw_session_hand_in(

@@ -10,7 +10,7 @@ use crate::content::{Content, code_of_room};
 use crate::given::Given;
 use crate::handle::{AnswerHandle, SessionHandle, SettlementHandle, nw_free, open, put, room};
 use crate::stores::code_of_refusal;
-use nw_shared_store::Unsettled;
+use nw_shared_store::SettleFault;
 use std::alloc::Global;
 
 /// Makes a settlement, to which no session is given.
@@ -68,9 +68,9 @@ pub extern "C" fn nw_settlement_give(
 
 /// Settles the sessions that were given, which must be all that one store made, in the order of their numbers, and of the present run. It
 /// replaces the content of `answer` with the run's history, which is an interleaving of their calls in this run. The history of each answer to
-/// these calls is a prefix of it. The sessions stay with the settlement. Returns `NW_UNSETTLED` if they are not all sessions of one store or
-/// not in order, `NW_BUSY` if another thread has a store's lock, and `NW_ENDED` if the run of a session has ended. The time grows with the
-/// number of sessions times the number of events.
+/// these calls is a prefix of it. The sessions stay with the settlement. Returns `NW_BUSY` if another thread has a store's lock, `NW_ENDED` if
+/// the run of a session has ended, and `NW_UNSETTLED` if they are not all sessions of one store or not in order. For each
+/// session, the time grows with the number of events and with the state that the history started from.
 #[unsafe(no_mangle)]
 pub extern "C" fn nw_settle(settlement: &mut SettlementHandle, answer: &mut AnswerHandle) -> i32
     ensures settled { result ≡ pos 0 → IsSettled accepts settlement.new.value answer.new.value }
@@ -93,7 +93,7 @@ pub extern "C" fn nw_settle(settlement: &mut SettlementHandle, answer: &mut Answ
             *answer.lend() = Content::History(history);
             DONE
         }
-        Err(Unsettled::Refused(why)) => code_of_refusal(why),
+        Err(SettleFault::Refused(why)) => code_of_refusal(why),
         Err(_) => UNSETTLED,
     }
 }

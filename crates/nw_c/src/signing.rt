@@ -63,7 +63,7 @@ pub extern "C" fn nw_text_of_vote(subject: &CSubject, out: &mut CVoteText) -> i3
 }
 
 /// Writes the message of the signer's vote for the block of this digest, round and author: 107 bytes. Writes this size to `needed`. Returns
-/// `NW_SMALL` if the buffer is smaller, and `NW_BAD_ROUND` if the round is not below 2^48. It does not check the signature, and needs no
+/// `NW_BAD_ROUND` if the round is not below 2^48, and `NW_SMALL` if the buffer is smaller. It does not check the signature, and needs no
 /// memory.
 #[unsafe(no_mangle)]
 pub extern "C" fn nw_vote_message(

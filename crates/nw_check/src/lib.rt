@@ -1,7 +1,7 @@
 //! Checks blocks and certificates from other validators, and gathers votes into certificates.
 //!
 //! The type of a checked value guarantees that its block is well formed, or its certificate valid, under the value's committee and
-//! scheme. `nw_model` defines both terms. The crate uses `nw_codec`, `nw_committee` and `nw_sig`.
+//! scheme. `nw_model` defines both terms. The crate uses `nw_decode`, `nw_committee` and `nw_sig`.
 #![tactic(auto)]
 
 mod check;

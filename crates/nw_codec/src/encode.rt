@@ -16,7 +16,7 @@ use crate::limits::{BLOCK_TAG, VERSION};
 use crate::{Block, EncodeError, Message, Ref, Signature};
 use nw_digest::{Digest, NoMemory};
 use sha2::Sha256;
-use sink::{Front, Sink};
+use sink::{Filled, Sink};
 use std::alloc::Global;
 
 fn put_parents<S: Sink>(sink: &mut S, parents: &[Ref]) -> Result<(), S::Refusal>
@@ -112,8 +112,8 @@ impl Block {
         ensures text { take (body_size self.now) buffer.new ≡ body self.now }
         ensures rest { drop (body_size self.now) buffer.new ≡ drop (body_size self.now) buffer.old }
     {
-        let mut front = Front { buffer, filled: 0 };
-        let Ok(()) = put_body(&mut front, self);
+        let mut buffer = Filled { buffer, filled: 0 };
+        let Ok(()) = put_body(&mut buffer, self);
     }
 
     /// Writes the text of its message, with this signature, to the front of the buffer, and leaves the rest as it was. The block
@@ -124,8 +124,8 @@ impl Block {
         ensures text { Spells (take (block_size self.now) buffer.new) (Message.Block self.now signature.now) }
         ensures rest { drop (block_size self.now) buffer.new ≡ drop (block_size self.now) buffer.old }
     {
-        let mut front = Front { buffer, filled: 0 };
-        let Ok(()) = put_block(&mut front, self, signature);
+        let mut buffer = Filled { buffer, filled: 0 };
+        let Ok(()) = put_block(&mut buffer, self, signature);
     }
 }
 

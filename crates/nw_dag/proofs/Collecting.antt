@@ -45,7 +45,7 @@ kept s complete = filter (λ d. is_some (get s.blocks d)) complete
 held_is : (found : Option Block) (b : Block) → found ≡ Some b → is_some found ≡ true
 held_is found b e = ap is_some e
 
-module _ (s : State) (round : ℕ) (unmet lacking : Pairs) (complete holders : List Digest) (sound : IsSound s) (higher : s.floor < round) (are : AreDigestsUpTo s round holders) (settled : IsComingToRest s unmet lacking complete []) where
+module _ (s : State) (round : ℕ) (unmet lacking : Pairs) (complete holders : List Digest) (sound : IsSound s) (higher : s.floor < round) (are : AreDigestsUpTo s round holders) (at_rest : IsComingToRest s unmet lacking complete []) where
   abbrev t : State
   t = raised s round
 
@@ -57,8 +57,8 @@ module _ (s : State) (round : ℕ) (unmet lacking : Pairs) (complete holders : L
   -- a listed digest is still ready if its block is held
   pub kept_listed : AreListed t lacking (kept t complete)
   kept_listed = record {
-    ready = λ k d lt. ready_kept _ (All-filter (λ d. is_some (get t.blocks d)) (IsReady s lacking) complete settled.listed.ready k d lt) (filter_passes (λ d. is_some (get t.blocks d)) complete k d lt);
-    once = IsDistinct-filter (eq_by_cmp digest_cmp) (λ d. is_some (get t.blocks d)) complete settled.listed.once;
+    ready = λ k d lt. ready_kept _ (All-filter (λ d. is_some (get t.blocks d)) (IsReady s lacking) complete at_rest.listed.ready k d lt) (filter_passes (λ d. is_some (get t.blocks d)) complete k d lt);
+    once = IsDistinct-filter (eq_by_cmp digest_cmp) (λ d. is_some (get t.blocks d)) complete at_rest.listed.once;
   }
 
   abbrev gone : List Digest
@@ -68,7 +68,7 @@ module _ (s : State) (round : ℕ) (unmet lacking : Pairs) (complete holders : L
   gone_lost : (x : Digest) → Contains gone x → Contains holders x × IsCompleteBelow s lacking round x
   gone_lost x among =
       let was = (contains_filter (λ d. not (is_some (get t.blocks d))) complete x).0 among in
-      let ready = All-contains (IsReady s lacking) complete x settled.listed.ready was.0 in
+      let ready = All-contains (IsReady s lacking) complete x at_rest.listed.ready was.0 in
       let b = ready.0.0 in
       let low : b.round < round = elim (cases_lt b.round round) [
         | inl below ↦ below
@@ -77,7 +77,7 @@ module _ (s : State) (round : ℕ) (unmet lacking : Pairs) (complete holders : L
       (are.blocks x b ready.0.1.0 (omega (arith, low)), (ready, (b, ready.0.1.0, low)))
 
   lost_gone : (x : Digest) → IsCompleteBelow s lacking round x → Contains gone x
-  lost_gone x (ready, (b, at, low)) = (contains_filter (λ d. not (is_some (get t.blocks d))) complete x).1 (settled.all x ready, none_held (get t.blocks x) refl)
+  lost_gone x (ready, (b, at, low)) = (contains_filter (λ d. not (is_some (get t.blocks d))) complete x).1 (at_rest.all x ready, none_held (get t.blocks x) refl)
     where
       none_held : (found : Option Block) → get t.blocks x ≡ found → not (is_some found) ≡ true
       none_held None is = refl
@@ -89,7 +89,7 @@ module _ (s : State) (round : ℕ) (unmet lacking : Pairs) (complete holders : L
   pub kept_count : (lost : ℕ) → HasCompleteBelow s lacking round holders lost → length (kept t complete) + lost ≡ length complete
   kept_count lost (xs, adds, counts) =
       let both = length-filter_both (λ d. is_some (get t.blocks d)) (λ d. not (is_some (get t.blocks d))) (λ d. refl) complete in
-      let once = IsDistinct-filter (eq_by_cmp digest_cmp) (λ d. not (is_some (get t.blocks d))) complete settled.listed.once in
+      let once = IsDistinct-filter (eq_by_cmp digest_cmp) (λ d. not (is_some (get t.blocks d))) complete at_rest.listed.once in
       let few = no_longer gone adds.added once (λ x among. (adds.exactly x).1 (gone_lost x among)) in
       let many = no_longer adds.added gone adds.once (λ x among. lost_gone x ((adds.exactly x).0 among).1) in
       omega (arith, both, few, many, ap (λ (ys : List Digest). length ys) adds.are, counts)
@@ -100,15 +100,15 @@ module _ (s : State) (round : ℕ) (unmet lacking : Pairs) (complete holders : L
       | inl added ↦ Contains-append_right (kept t complete) adds.added x added
       | inr apart ↦
           let was = ready_cases s round sound higher holders are lacking new without adds.added adds.exactly x ready apart in
-          let here = (contains_filter (λ d. is_some (get t.blocks d)) complete x).1 (settled.all x was, held_is (get t.blocks x) ready.0.0 ready.0.1.0) in
+          let here = (contains_filter (λ d. is_some (get t.blocks d)) complete x).1 (at_rest.all x was, held_is (get t.blocks x) ready.0.0 ready.0.1.0) in
           Contains-append_left (kept t complete) adds.added x here
     ]
 
     -- the digests that became ready are due
-    pub settling : IsComingToRest t met new (kept t complete ++ adds.added) adds.added
-    settling = record {
-      standing = unmet_raised s round sound higher holders are unmet met settled.standing met_without;
-      promoted = lacking_raised s round sound higher holders are lacking new without adds.added adds.exactly settled.promoted;
+    pub coming_to_rest : IsComingToRest t met new (kept t complete ++ adds.added) adds.added
+    coming_to_rest = record {
+      standing = unmet_raised s round sound higher holders are unmet met at_rest.standing met_without;
+      promoted = lacking_raised s round sound higher holders are lacking new without adds.added adds.exactly at_rest.promoted;
       listed = released t lacking new holders (kept t complete) fresh more without adds kept_listed;
       all = all_listed;
     }
@@ -155,31 +155,31 @@ reply_counts s round dropped is = raised_by (nat_le round s.floor) s.floor (len 
 -- ---- the same, in terms of the contract
 
 module _ (s : State) (unmet lacking : Pairs) (pending : ℕ) (holders : List Digest) (dropped : ℕ) (far : IsCollecting s unmet lacking pending holders dropped) where
-  abbrev was : IsComingToRest far.before unmet lacking far.settled.complete []
-  was = far.settled.settling
+  abbrev was : IsComingToRest far.before unmet lacking far.at_rest.complete []
+  was = far.at_rest.coming_to_rest
 
   abbrev still : List Digest
-  still = kept (raised far.before s.floor) far.settled.complete
+  still = kept (raised far.before s.floor) far.at_rest.complete
 
   listed : AreListed (raised far.before s.floor) lacking still
-  listed = kept_listed far.before s.floor unmet lacking far.settled.complete holders far.sound far.higher far.digests_up_to was
+  listed = kept_listed far.before s.floor unmet lacking far.at_rest.complete holders far.sound far.higher far.digests_up_to was
 
-  counted : length still + far.lost ≡ length far.settled.complete
-  counted = kept_count far.before s.floor unmet lacking far.settled.complete holders far.sound far.higher far.digests_up_to was far.lost far.are_lost
+  counted : length still + far.lost ≡ length far.at_rest.complete
+  counted = kept_count far.before s.floor unmet lacking far.at_rest.complete holders far.sound far.higher far.digests_up_to was far.lost far.are_lost
 
   fits : length still ≤ len s.blocks
   fits = subst (λ (t : State). length still ≤ len t.blocks) (sym far.raised) (listed_fits (raised far.before s.floor) lacking still listed)
 
   -- at most as many blocks were dropped as were pending
   pub dropped_fits : dropped ≤ pending
-  dropped_fits = omega (arith, far.counts, far.settled.counts, counted, fits)
+  dropped_fits = omega (arith, far.counts, far.at_rest.counts, counted, fits)
 
   pub count_kept : (left : ℕ) → left ≡ pending - dropped → HasPendingCount s lacking [] left
   count_kept left is = subst (λ (t : State). HasPendingCount t lacking [] left) (sym far.raised) (record {
     complete = still;
     listed = listed;
     apart = λ x none. absurd (contains_none x none);
-    counts = omega (arith, is, far.counts, far.settled.counts, counted, fits, ap (λ (t : State). len t.blocks) far.raised);
+    counts = omega (arith, is, far.counts, far.at_rest.counts, counted, fits, ap (λ (t : State). len t.blocks) far.raised);
   })
 
   pub collected : (met new : Pairs) (fresh more : List Digest) (mid left place : ℕ) → mid ≡ pending - dropped → AreReleased holders unmet met → AreReleased holders lacking new → AppendsThose (StandsButLacks s lacking) holders fresh more
@@ -189,18 +189,18 @@ module _ (s : State) (unmet lacking : Pairs) (pending : ℕ) (holders : List Dig
       go : AppendsThose (StandsButLacks (raised far.before s.floor) lacking) holders fresh more → IsCascading (raised far.before s.floor) met new (drop place more) left
       go stuck = subst (λ xs. IsCascading (raised far.before s.floor) met new xs left) (sym (ap (drop place) stuck.are ∙ drop_at fresh stuck.added place (sym at))) (record {
         front = still;
-        settling = settling far.before s.floor unmet lacking far.settled.complete holders far.sound far.higher far.digests_up_to was met new fresh more met_without without stuck;
-        counts = omega (arith, is, far.counts, far.settled.counts, counted, fits, ap (λ (t : State). len t.blocks) far.raised, length-append still stuck.added, most_left stuck mid left most);
+        coming_to_rest = coming_to_rest far.before s.floor unmet lacking far.at_rest.complete holders far.sound far.higher far.digests_up_to was met new fresh more met_without without stuck;
+        counts = omega (arith, is, far.counts, far.at_rest.counts, counted, fits, ap (λ (t : State). len t.blocks) far.raised, length-append still stuck.added, most_left stuck mid left most);
       })
 
--- the garbage round of a settled store was raised
+-- the garbage round of a at_rest store was raised
 pub collecting : (before s : State) (round : ℕ) (unmet lacking : Pairs) (pending : ℕ) (low holders : List Digest) (lost dropped : ℕ) → s ≡ raised before round → IsSound before → IsAtRest before unmet lacking pending
     → before.floor < round → AreDigestsUpTo before round low → holders ≡ low → HasCompleteBelow before lacking round low lost → dropped + lost + len s.blocks ≡ len before.blocks → IsCollecting s unmet lacking pending holders dropped
-collecting before s round unmet lacking pending low holders lost dropped is sound settled higher digests_up_to same are_lost counts =
+collecting before s round unmet lacking pending low holders lost dropped is sound at_rest higher digests_up_to same are_lost counts =
     subst (λ (t : State). IsCollecting t unmet lacking pending holders dropped) (sym is) (record {
       before = before;
       sound = sound;
-      settled = settled;
+      at_rest = at_rest;
       higher = higher;
       raised = refl;
       digests_up_to = subst (AreDigestsUpTo before round) (sym same) digests_up_to;

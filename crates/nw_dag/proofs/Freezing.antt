@@ -164,10 +164,10 @@ held_same s xs old new d are lacks same q c = (
 -- ---- the state that a view shows
 
 pub shown : (s : State) (unmet lacking : Pairs) (pending : ℕ) (v : Frozen) → IsSound s → IsAtRest s unmet lacking pending → v.floor ≡ s.floor → AreFrozen s lacking v.blocks → Shows v s
-shown s unmet lacking pending v sound settled floor are = record {
+shown s unmet lacking pending v sound at_rest floor are = record {
   floor = floor;
   complete = λ d b.
-      let same = ready_complete s lacking settled.settling.promoted sound d in (
+      let same = ready_complete s lacking at_rest.coming_to_rest.promoted sound d in (
         λ (at, kept).
             let held = (are d b (omega (arith, floor, kept))).0 at in
             (held.1, omega (arith, floor, kept), same.0 held.0),

@@ -21,10 +21,10 @@ names_nothing d w (b, at, above, among) = none-some b (sym (get-empty digest_cmp
 lacks_nothing : (d : Digest) (w : Wanted) → Lacks empty d w → ⊥
 lacks_nothing d w lacks = false≢true (sym (contains-empty pair_cmp (w, d)) ∙ lacks)
 
-pub settled_opening : IsAtRest opening empty empty 0
-settled_opening = record {
+pub opening_at_rest : IsAtRest opening empty empty 0
+opening_at_rest = record {
   complete = [];
-  settling = record {
+  coming_to_rest = record {
     standing = λ d w. (λ lacks. absurd (lacks_nothing d w lacks), λ names. absurd (names_nothing d w names.0));
     promoted = record {
       each = λ d w names. absurd (names_nothing d w names);

@@ -76,11 +76,11 @@ count_fewer s old new v pending holders is are counted = record {
 -- ---- one place of the list
 
 pub count_of : (s : State) (unmet lacking : Pairs) (due : List Digest) (pending : ℕ) → IsCascading s unmet lacking due pending → HasPendingCount s lacking [] pending
-count_of s unmet lacking due pending far = record { complete = far.front ++ due; listed = far.settling.listed; apart = λ x none. absurd (contains_none x none); counts = far.counts }
+count_of s unmet lacking due pending far = record { complete = far.front ++ due; listed = far.coming_to_rest.listed; apart = λ x none. absurd (contains_none x none); counts = far.counts }
 
 pub stands_at : (s : State) (unmet lacking : Pairs) (fresh : List Digest) (pending place : ℕ) (d : Digest) → IsCascading s unmet lacking (drop place fresh) pending → place < length fresh → Stands s (get_or fresh place d)
 stands_at s unmet lacking fresh pending place d far lt =
-    (All-contains (IsReady s lacking) (far.front ++ drop place fresh) (get_or fresh place d) far.settling.listed.ready
+    (All-contains (IsReady s lacking) (far.front ++ drop place fresh) (get_or fresh place d) far.coming_to_rest.listed.ready
     (Contains-append_right far.front (drop place fresh) (get_or fresh place d) (subst (λ xs. Contains xs (get_or fresh place d)) (sym (drop_more fresh place d lt)) (contains_first (get_or fresh place d) (drop (place + 1) fresh))))).0
 
 module _ (s : State) (unmet old new : Pairs) (e : Digest) (rest fresh more : List Digest) (pending left : ℕ) (far : IsCascading s unmet old (e ∷ rest) pending) (step : Promotes s e old new fresh more)
@@ -89,19 +89,19 @@ module _ (s : State) (unmet old new : Pairs) (e : Digest) (rest fresh more : Lis
   was = far.front ++ (e ∷ rest)
 
   e_ready : IsReady s old e
-  e_ready = All-contains (IsReady s old) was e far.settling.listed.ready (Contains-append_right far.front (e ∷ rest) e (contains_first e rest))
+  e_ready = All-contains (IsReady s old) was e far.coming_to_rest.listed.ready (Contains-append_right far.front (e ∷ rest) e (contains_first e rest))
 
   longer : was ++ step.added ≡ (far.front ++ e ∷ []) ++ (rest ++ step.added)
   longer = append_assoc far.front (e ∷ rest) step.added ∙ sym (append_assoc far.front (e ∷ []) (rest ++ step.added))
 
   stays : AreListed s new was
-  stays = listed_fewer s old new (name_of e step.block) was step.lost far.settling.listed
+  stays = listed_fewer s old new (name_of e step.block) was step.lost far.coming_to_rest.listed
 
   added_ready : AreListed s new step.added
   added_ready = record { ready = λ k d lt. ((step.exactly (get_or step.added k d)).0 (Contains-get_or step.added k d lt)).1; once = step.once }
 
   unready : (x : Digest) → Contains step.added x → Contains was x → ⊥
-  unready x among before = (All-contains (IsReady s old) was x far.settling.listed.ready before).1 (name_of e step.block) ((step.exactly x).0 among).0
+  unready x among before = (All-contains (IsReady s old) was x far.coming_to_rest.listed.ready before).1 (name_of e step.block) ((step.exactly x).0 among).0
 
   listed : AreListed s new (was ++ step.added)
   listed = listed_both s new was step.added stays added_ready unready
@@ -109,16 +109,16 @@ module _ (s : State) (unmet old new : Pairs) (e : Digest) (rest fresh more : Lis
   all : (x : Digest) → IsReady s new x → Contains (was ++ step.added) x
   all x ready = elim (lacks_or_not old x (name_of e step.block)) [
     | inl lacked ↦ Contains-append_right was step.added x ((step.exactly x).1 (lacked, ready))
-    | inr never ↦ Contains-append_left was step.added x (far.settling.all x (ready_before s old new (name_of e step.block) step.lost x ready never))
+    | inr never ↦ Contains-append_left was step.added x (far.coming_to_rest.all x (ready_before s old new (name_of e step.block) step.lost x ready never))
   ]
 
   -- the next digest is due
   pub next_due : IsCascading s unmet new (rest ++ step.added) left
   next_due = record {
     front = far.front ++ e ∷ [];
-    settling = subst (λ xs. IsComingToRest s unmet new xs (rest ++ step.added)) longer (record {
-      standing = far.settling.standing;
-      promoted = promoted s e old new fresh more rest far.settling.promoted e_ready (first_once e rest (once_back far.front (e ∷ rest) far.settling.listed.once)) step;
+    coming_to_rest = subst (λ xs. IsComingToRest s unmet new xs (rest ++ step.added)) longer (record {
+      standing = far.coming_to_rest.standing;
+      promoted = promoted s e old new fresh more rest far.coming_to_rest.promoted e_ready (first_once e rest (once_back far.front (e ∷ rest) far.coming_to_rest.listed.once)) step;
       listed = listed;
       all = all;
     });
@@ -155,7 +155,7 @@ grown_more s P first old new start fresh more e grown step = record {
 pub none_due : (s : State) (unmet lacking : Pairs) (fresh : List Digest) (pending place : ℕ) → IsCascading s unmet lacking (drop place fresh) pending → length fresh ≤ place → IsAtRest s unmet lacking pending
 none_due s unmet lacking fresh pending place far past =
     let end = subst (λ xs. IsCascading s unmet lacking xs pending) (drop_all place fresh past) far in
-    record { complete = end.front ++ []; settling = end.settling; counts = end.counts }
+    record { complete = end.front ++ []; coming_to_rest = end.coming_to_rest; counts = end.counts }
 
 -- ---- one digest stands
 
@@ -174,7 +174,7 @@ met_at s d v name stands =
 pub not_standing : (s : State) (d : Digest) (unmet lacking : Pairs) (pending : ℕ) → (Stands s d → ⊥) → IsAtRestWithout s d unmet lacking pending → IsAtRest s unmet lacking pending
 not_standing s d unmet lacking pending never far = record {
   complete = far.complete;
-  settling = record {
+  coming_to_rest = record {
     standing = met_not_yet s d unmet never far.standing;
     promoted = not_ready_yet s d lacking (λ ready. never ready.0) far.promoted;
     listed = far.listed;
@@ -186,7 +186,7 @@ not_standing s d unmet lacking pending never far = record {
 pub not_ready : (s : State) (d : Digest) (unmet met lacking : Pairs) (pending : ℕ) → (IsReady s lacking d → ⊥) → AreUnmet s met → IsAtRestWithout s d unmet lacking pending → IsAtRest s met lacking pending
 not_ready s d unmet met lacking pending never standing far = record {
   complete = far.complete;
-  settling = record {
+  coming_to_rest = record {
     standing = standing;
     promoted = not_ready_yet s d lacking never far.promoted;
     listed = far.listed;
@@ -218,7 +218,7 @@ now_ready s d unmet met lacking fresh more pending left place standing ready is 
     let lt = pending_but s d unmet lacking pending far ready in
     subst (λ xs. IsCascading s met lacking xs left) (sym (ap (drop place) is ∙ drop_at fresh (d ∷ []) place (sym at))) (record {
       front = far.complete;
-      settling = record {
+      coming_to_rest = record {
         standing = standing;
         promoted = far.promoted;
         listed = listed_both s lacking far.complete (d ∷ []) far.listed (listed_one s lacking d ready)

@@ -79,33 +79,33 @@ module _ (s : State) (d : Digest) (b : Block) (vote : Bool) (absent : get s.bloc
     );
   }
 
-  -- the tables are settled, without counting the new block
+  -- the tables are at rest, without counting the new block
   pub written : (unmet lacking met after : Pairs) (pending more : ℕ) → IsAtRest s unmet lacking pending → LacksAlso (IsMet s) named d unmet met
       → LacksAlso (λ w. IsMet s w × IsReady s lacking w.digest) named d lacking after → more ≡ pending + 1 → IsAtRestWithout t d met after more
   written unmet lacking met after pending more known wants_met wants one_more = record {
     complete = known.complete;
     standing = unmet_arrived s t d block_arrives met (λ h w. (
       λ lacks. elim (wants_met.only h w lacks) [
-        | inl was ↦ let both = (settled.standing h w).0 was in (names_still h w both.0, both.1)
+        | inl was ↦ let both = (at_rest.standing h w).0 was in (names_still h w both.0, both.1)
         | inr new ↦ (names_new h w new.0 new.1, new.2)
       ],
       λ (names, fails). elim (names_cases h w names) [
         | inl (same, is) ↦ elim (wants_met.each w is) [ inl lacks ↦ subst (λ q. Lacks met q w) (sym same) lacks | inr has ↦ absurd (fails has) ]
-        | inr old ↦ wants_met.still h w ((settled.standing h w).1 (old, fails))
+        | inr old ↦ wants_met.still h w ((at_rest.standing h w).1 (old, fails))
       ],
     ));
     promoted = arrived s t d block_arrives lacking after since;
-    listed = listed_arrived s t d block_arrives lacking after since known.complete settled.listed;
-    apart = listed_apart s t d block_arrives lacking after since known.complete settled.listed;
-    all = λ x other ready. settled.all x (ready_was s t d block_arrives lacking after since x other ready);
+    listed = listed_arrived s t d block_arrives lacking after since known.complete at_rest.listed;
+    apart = listed_apart s t d block_arrives lacking after since known.complete at_rest.listed;
+    all = λ x other ready. at_rest.all x (ready_was s t d block_arrives lacking after since x other ready);
     counts = let longer = len-insert digests_total s.blocks d b ∙ ap (λ found. cond (is_some found) (len s.blocks) (len s.blocks + 1)) absent in omega (arith, longer, known.counts, one_more);
   }
     where
-      settled : IsComingToRest s unmet lacking known.complete []
-      settled = known.settling
+      at_rest : IsComingToRest s unmet lacking known.complete []
+      at_rest = known.coming_to_rest
 
       since : AreLackingSince s t d lacking after
-      since = since_written lacking after settled.promoted wants
+      since = since_written lacking after at_rest.promoted wants
 
 -- ---- one more certificate
 
@@ -128,21 +128,21 @@ module _ (s : State) (c : Certificate) (absent : get s.certificates c.digest ≡
 
   pub certified : (unmet lacking : Pairs) (pending : ℕ) → IsAtRest s unmet lacking pending → IsAtRestWithout (with_certificate s c) c.digest unmet lacking pending
   certified unmet lacking pending known =
-      let settled = known.settling in
-      let since = since_certified lacking settled.promoted in
+      let at_rest = known.coming_to_rest in
+      let since = since_certified lacking at_rest.promoted in
       record {
         complete = known.complete;
-        standing = unmet_arrived s (with_certificate s c) c.digest certificate_arrives unmet (λ h w. settled.standing h w);
+        standing = unmet_arrived s (with_certificate s c) c.digest certificate_arrives unmet (λ h w. at_rest.standing h w);
         promoted = arrived s (with_certificate s c) c.digest certificate_arrives lacking lacking since;
-        listed = listed_arrived s (with_certificate s c) c.digest certificate_arrives lacking lacking since known.complete settled.listed;
-        apart = listed_apart s (with_certificate s c) c.digest certificate_arrives lacking lacking since known.complete settled.listed;
-        all = λ x other ready. settled.all x (ready_was s (with_certificate s c) c.digest certificate_arrives lacking lacking since x other ready);
+        listed = listed_arrived s (with_certificate s c) c.digest certificate_arrives lacking lacking since known.complete at_rest.listed;
+        apart = listed_apart s (with_certificate s c) c.digest certificate_arrives lacking lacking since known.complete at_rest.listed;
+        all = λ x other ready. at_rest.all x (ready_was s (with_certificate s c) c.digest certificate_arrives lacking lacking since x other ready);
         counts = known.counts;
       }
 
 -- between two calls, the unmet pairs are those of the lacking ones whose parents are not met
-pub split_settled : (s : State) (unmet lacking : Pairs) (due : List Digest) → AreUnmet s unmet → AreLacking s lacking due → AreSplit s unmet lacking
-split_settled s unmet lacking due are all d w = (
+pub split_at_rest : (s : State) (unmet lacking : Pairs) (due : List Digest) → AreUnmet s unmet → AreLacking s lacking due → AreSplit s unmet lacking
+split_at_rest s unmet lacking due are all d w = (
   λ lacks.
       let both = (are d w).0 lacks in
       (elim (all.each d w both.0) [ inl is ↦ is | inr has ↦ absurd (both.1 has.0) ], both.1),

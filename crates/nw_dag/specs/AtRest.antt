@@ -62,7 +62,7 @@ pub record IsCascading (s : State) (unmet lacking : Pairs) (due : List Digest) (
   -- the listed digests that are promoted already
   pub front : List Digest
   -- the sets are right; the listed digests are these, followed by the due ones
-  pub settling : IsComingToRest s unmet lacking (front ++ due) due
+  pub coming_to_rest : IsComingToRest s unmet lacking (front ++ due) due
   -- all other held blocks are pending
   pub counts : ArePending s (front ++ due) pending
 
@@ -71,7 +71,7 @@ pub record IsAtRest (s : State) (unmet lacking : Pairs) (pending : ℕ) : Type 0
   -- the listed digests
   pub complete : List Digest
   -- the sets are right, with nothing due
-  pub settling : IsComingToRest s unmet lacking complete []
+  pub coming_to_rest : IsComingToRest s unmet lacking complete []
   -- all other held blocks are pending
   pub counts : ArePending s complete pending
 

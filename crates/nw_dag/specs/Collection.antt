@@ -37,7 +37,7 @@ pub record IsCollecting (s : State) (unmet lacking : Pairs) (pending : ℕ) (hol
   -- it was sound
   pub sound : IsSound before
   -- the sets and the count of pending blocks are right for it
-  pub settled : IsAtRest before unmet lacking pending
+  pub at_rest : IsAtRest before unmet lacking pending
   -- the garbage round is higher now
   pub higher : before.floor < s.floor
   -- the state is the one before, raised to the new garbage round

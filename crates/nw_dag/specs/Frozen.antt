@@ -49,6 +49,6 @@ pub record Grows (s : State) (P : Digest → Type 0) (old new : Pairs) (fresh mo
 -- the invariant of the tables of a store, which holds between two calls
 pub record IsDag (s : State) (unmet lacking : Pairs) (fresh : List Digest) (pending : ℕ) (blocks : FinMap digest_cmp Block) : Type 0 where
   -- the two sets and the number of pending blocks are right
-  pub settled : IsAtRest s unmet lacking pending
+  pub at_rest : IsAtRest s unmet lacking pending
   -- each complete block is frozen or fresh
   pub frozen : AreFrozenExcept s lacking fresh blocks

@@ -4,7 +4,7 @@
 //! round and author.
 ghost use Rattle.std.specs.Prelude.{◌≡◌, ◌<◌, ◌≤◌, ◌+◌, [], OnOk, OnErr, MatchOption};
 ghost use Rattle.std.specs.FinSet as set;
-ghost use Rattle.nw_waiting.specs.Pairs.{without_holder};
+ghost use Rattle.nw_waiting.specs.Pairs.{LacksCount, without_holder};
 ghost use Rattle.nw_state.specs.Standing.{Stands, IsMet};
 ghost use Rattle.nw_dag.specs.Lacking.{AreSplit, IsReady, IsNamedAmong, LacksNothing};
 ghost use Rattle.nw_model.specs.Missing.{IsNamedBy};
@@ -139,18 +139,19 @@ impl Waits {
         Ok(())
     }
 
-    /// Forgets which parents the holder lacks. From now on it lacks nothing.
-    pub(crate) fn forget(&mut self, holder: Digest)
+    /// Forgets which parents the holder lacks, and returns how many these were. From now on it lacks nothing.
+    pub(crate) fn forget(&mut self, holder: Digest) -> usize
+        ensures count { LacksCount self.old.missing.lacking holder result }
         ensures unmet { self.new.missing.unmet ≡ without_holder self.old.missing.unmet holder }
         ensures lacking { self.new.missing.lacking ≡ without_holder self.old.missing.lacking holder }
         ensures completions { self.new.completions ≡ self.old.completions }
     {
-        self.missing.drop_holder(holder);
+        self.missing.drop_holder(holder)
     }
 }
 
 /// The round of the block's parents. `None` if the block is not above the garbage round: then it wants no parents.
-pub(crate) fn parents_round(held: &StateTables, block: &Block) -> Option<Round>
+fn parents_round(held: &StateTables, block: &Block) -> Option<Round>
     ensures { MatchOption result (block.now.round ≤ held.now.state.floor)
         (λ round. (round + 1 ≡ block.now.round) × (held.now.state.floor < block.now.round)) }
 {
@@ -161,7 +162,7 @@ pub(crate) fn parents_round(held: &StateTables, block: &Block) -> Option<Round>
 }
 
 /// The parent that the reference names, in this round.
-pub(crate) fn named_by(reference: &Ref, round: Round) -> Wanted
+fn named_by(reference: &Ref, round: Round) -> Wanted
     ensures { IsNamedBy (round + 1) reference.now result }
 {
     Wanted {

@@ -146,9 +146,6 @@ signature_at text field rest bytes long front back none = record {
 pub number_passes : (stage next : Stage) (n : ℕ) (text rest : List ℕ) → width stage ≡ Some 2 → NumberAt text n rest → after_field stage (to_be_bytes w16 n) ≡ Ok next → Reaches stage text next rest
 number_passes stage next n text rest wide at passes = subst (λ (t : List ℕ). Reaches stage t next rest) (sym at.bytes) (one_field stage next (to_be_bytes w16 n) rest wide passes)
 
-pub round_passes : (stage next : Stage) (n : ℕ) (text rest : List ℕ) → width stage ≡ Some 6 → RoundAt text n rest → after_field stage (round_bytes n) ≡ Ok next → Reaches stage text next rest
-round_passes stage next n text rest wide at passes = subst (λ (t : List ℕ). Reaches stage t next rest) (sym at.bytes) (one_field stage next (round_bytes n) rest wide passes)
-
 number_fails : (stage : Stage) (n : ℕ) (text rest : List ℕ) (e : DecodeError) → width stage ≡ Some 2 → NumberAt text n rest → after_field stage (to_be_bytes w16 n) ≡ Err e → FaultFrom stage text e
 number_fails stage n text rest e wide at fails =
     let field : take 2 text ≡ to_be_bytes w16 n = ap (take 2) at.bytes ∙ take_at (to_be_bytes w16 n) rest 2 refl in

@@ -9,7 +9,7 @@ use Rattle.nw_decode.specs.declared.peek.Peek.TheVariants as peeks
 use Rattle.nw_codec.specs.declared.subject.Subject.{Subject}
 use Rattle.nw_codec.specs.Grammar.{round_bytes, subject_bytes, message}
 use Rattle.nw_decode.specs.Parts.{NumberAt}
-use Rattle.nw_decode.specs.Peek.{peek_of, BeginsWith, HasFront, Peeks}
+use Rattle.nw_decode.specs.Peek.{peek_of, BeginsWith, HasPeek, Peeks}
 use Rattle.nw_codec.specs.Spelled.{Spells}
 use Rattle.nw_codec.specs.Subject.{vote_subject}
 use Rattle.nw_codec.specs.Typed.{IsSubject}
@@ -21,7 +21,7 @@ use Rattle.nw_decode.proofs.WrittenVotes.{certificate_message_is, vote_message_i
 
 -- ---- a text that begins with fields is long enough, and has their tag
 
-pub front_is : (text : List ℕ) (p : Peek) → BeginsWith text p → HasFront text
+pub front_is : (text : List ℕ) (p : Peek) → BeginsWith text p → HasPeek text
 front_is text (peeks.Block round author) begins =
     let e = begins.1.1 in
     inl (ap (λ (t : List ℕ). get_or t 0 0) e, ap (λ (t : List ℕ). get_or t 1 0) e, omega (arith, ap length e))

@@ -16,10 +16,10 @@ peek_of (messages.Certificate c) = peeks.Certificate (certificate_subject c)
 peek_of (messages.Vote v) = peeks.Vote (vote_subject v) v.signer
 
 -- the fields as a message begins with them: tag 1, version 1, author and round; tag 2 and the subject; or tag 3, the subject and the signer
-abbrev pub front_bytes : Peek → List ℕ
-front_bytes (peeks.Block round author) = 1 ∷ 1 ∷ to_be_bytes w16 author ++ round_bytes round
-front_bytes (peeks.Certificate s) = 2 ∷ subject_bytes s
-front_bytes (peeks.Vote s signer) = 3 ∷ subject_bytes s ++ to_be_bytes w16 signer
+abbrev pub peek_bytes : Peek → List ℕ
+peek_bytes (peeks.Block round author) = 1 ∷ 1 ∷ to_be_bytes w16 author ++ round_bytes round
+peek_bytes (peeks.Certificate s) = 2 ∷ subject_bytes s
+peek_bytes (peeks.Vote s signer) = 3 ∷ subject_bytes s ++ to_be_bytes w16 signer
 
 -- the fields are in the ranges of the program
 abbrev pub IsPeek : Peek → Type 0
@@ -29,15 +29,15 @@ IsPeek (peeks.Vote s signer) = IsSubject s × (signer < 2 ^ 16)
 
 -- the text begins with these fields
 abbrev pub BeginsWith : List ℕ → Peek → Type 0
-BeginsWith text p = IsPeek p × ((rest : List ℕ) × (text ≡ front_bytes p ++ rest))
+BeginsWith text p = IsPeek p × ((rest : List ℕ) × (text ≡ peek_bytes p ++ rest))
 
 -- the text has tag 1, version 1 and 8 bytes more; tag 2 and the 40 bytes of a subject; or tag 3 and the 42 bytes of a subject and a signer
-abbrev pub HasFront : List ℕ → Type 0
-HasFront text =
+abbrev pub HasPeek : List ℕ → Type 0
+HasPeek text =
     ((slice_index text 0 ≡ 1) × (slice_index text 1 ≡ 1) × (10 ≤ length text))
     ⊎ ((slice_index text 0 ≡ 2) × (41 ≤ length text))
     ⊎ ((slice_index text 0 ≡ 3) × (43 ≤ length text))
 
--- the answer is the fields that the text begins with, or none if the text has no such front
+-- the answer is the fields that the text begins with, or none if it begins with none
 abbrev pub Peeks : List ℕ → Option Peek → Type 0
-Peeks text answer = MatchOption answer (HasFront text → ⊥) (λ p. BeginsWith text p)
+Peeks text answer = MatchOption answer (HasPeek text → ⊥) (λ p. BeginsWith text p)

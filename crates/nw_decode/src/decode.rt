@@ -12,7 +12,7 @@ use crate::DecodeError;
 use block::decode_block;
 use certificate::{decode_certificate, decode_vote};
 use fields::field;
-pub(crate) use fields::{front, number_of, round_of, subject_of};
+pub(crate) use fields::{first, number_of, round_of, subject_of};
 use nw_codec::{BLOCK_TAG, CERTIFICATE_TAG, Message, VOTE_TAG};
 use std::alloc::Global;
 

@@ -185,8 +185,8 @@ impl<S: Scheme> Front<S> {
     /// Whether this front is a prefix of the other: both have the same committee, limits and base, and the other's events begin with
     /// this one's.
     ///
-    /// Allocates no memory. It compares the session, number and call of each event of this front. If these are equal in two legal
-    /// histories, so are the replies.
+    /// Allocates no memory. It compares the bases, and then the session, number and call of each event of this front. If these are equal
+    /// in two legal histories, so are the replies.
     pub fn is_prefix_of(&self, other: &Front<S>) -> bool
         ensures prefix { IsTrue result ↔ IsPrefixOf self.now other.now }
         ensures legal { IsLegalStory S.accepts self.now }

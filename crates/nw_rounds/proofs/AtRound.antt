@@ -1,14 +1,15 @@
 -- Which digests belong to a range of rounds.
-use Rattle.std.proofs.Common.{◌≡◌, ◌∙◌, ◌⊎◌, inl, inr, ℕ, ◌<◌, ◌≤◌, Bool, true, false, cond, not, ◌&&◌, ◌||◌, ◌++◌, List, [], ◌∷◌, map, Bor, Option, Some, None, zero, suc, refl, sym, ap, subst, arith}
-use Rattle.std.specs.Prelude.{All, filter, Contains, nat_le, slice_get}
+use Rattle.std.proofs.Common.{◌≡◌, ◌∙◌, ◌⊎◌, inl, inr, ℕ, ◌<◌, ◌≤◌, Bool, true, false, cond, not, ◌&&◌, ◌++◌, List, [], ◌∷◌, map, Bor, Option, Some, None, zero, suc, refl, sym, ap, subst, arith}
+use Rattle.std.specs.Prelude.{All, filter, Contains, IsPermutation, nat_le, slice_get}
 use Rattle.std.specs.Bool.{MatchBool}
 use Rattle.std.specs.declared.cmp.Ordering.{Ordering}
 use Rattle.std.specs.declared.cmp.Ordering.TheVariants.{Less, Equal, Greater}
 use Rattle.std.specs.declared.ops.Bound.TheVariants.{Included, Excluded}
 use Rattle.std.specs.Ordering.{nat_cmp, is_gt, is_le, eq_by_cmp, ordering_then}
-use Rattle.std.specs.Cmp.{IsTotalOrder, eq_by_cmp_equiv, nat_cmp_is}
-use Rattle.std.specs.List.{IsDistinct, list_any}
-use Rattle.std.specs.List.Sorted.{IsStrictlySortedBy}
+use Rattle.std.specs.Cmp.{eq_by_cmp_equiv, nat_cmp_is}
+use Rattle.std.specs.List.{IsDistinct}
+use Rattle.std.specs.List.Retain.{IsFiltered, DiffersFromLast}
+use Rattle.std.specs.List.Sorted.{IsSorted, IsStrictlySortedBy}
 use Rattle.std.specs.Map.{lookup, keys_of, values_of}
 use Rattle.std.specs.BTreeMap.{is_at}
 use Rattle.std.specs.FinMap.{get}
@@ -16,23 +17,23 @@ use Rattle.std.specs.BTreeMap.Range.{IsLeBy, range_contains}
 use Rattle.std.specs.Map.Iter.{deref_pair}
 use Rattle.std.proofs.lemmas.Bool.{le-leb, lt-leb, ltb-true, ltb-false}
 use Rattle.std.proofs.lemmas.List.Elements.{All-head, All-tail, All-weaker, filter_agree}
-use Rattle.std.proofs.lemmas.List.Folds.{list_any-append}
 use Rattle.std.proofs.lemmas.Map.Entries.{lookup-filter-keys}
 use Rattle.std.proofs.lemmas.List.Kept.{IsStrictlySortedBy-filter}
 use Rattle.std.proofs.lemmas.Map.Keys.{IsDistinct-from_sorted}
 use Rattle.std.proofs.lemmas.Map.Made.{Contains-from_values_of, Contains-values_of, IsDistinct-keys_filter}
-use Rattle.std.proofs.lemmas.Map.Views.{Contains-from_any, Contains-from_lookup, list_any-from_Contains, lookup-from_Contains}
+use Rattle.std.proofs.lemmas.Map.Views.{Contains-from_lookup, lookup-from_Contains}
 use Rattle.std.proofs.lemmas.Bool.Decides.{nat_tests}
 use lib.Dec.{leb, ltb}
 use Rattle.nw_digest.specs.declared.digest.Digest.{Digest}
 use Rattle.nw_rounds.specs.declared.kind.DigestKind.{DigestKind}
 use Rattle.nw_rounds.specs.declared.kind.DigestKind.TheVariants.{First, Certified}
 use Rattle.nw_digest.specs.Order.{digest_cmp, Slot}
-use Rattle.nw_digest.proofs.Maps.{digests_total, same_digest, tie}
+use Rattle.nw_digest.proofs.Maps.{tie}
 use Rattle.nw_rounds.specs.Slots.{AreDigestsBetween, HasAllDigests, IsDigestAt, Tables}
 use Rattle.nw_rounds.specs.Places.{ArePlacesBetween, BeginsBelow, Place, place_cmp, kind_cmp, map_of, tables_of}
 use Rattle.nw_rounds.proofs.SlotLemmas.{places_apart, places_total}
 use Rattle.nw_rounds.proofs.OfKind.{get_in}
+use Rattle.nw_rounds.proofs.Sorted.{same, same_digests, ascends}
 
 -- no place of a round comes before its first place
 from_first : (author : ℕ) (t : DigestKind) → is_le (ordering_then (nat_cmp 0 author) (kind_cmp First t)) ≡ true
@@ -160,29 +161,14 @@ module _ (t : Tables) (from to : ℕ) (rs : List (Place × Digest)) (are : ArePl
   at_place d (round, low, high, (author, inl is)) = Contains-values_of rs ((round, author), First) d ((are.exactly ((round, author), First) d).1 (low, high, is))
   at_place d (round, low, high, (author, inr is)) = Contains-values_of rs ((round, author), Certified) d ((are.exactly ((round, author), Certified) d).1 (low, high, is))
 
-  -- a set with the digests of these places has exactly the digests of these rounds
-  pub are_digests : (ks : List Digest) → ((d : Digest) → list_any (eq_by_cmp digest_cmp d) ks ≡ list_any (eq_by_cmp digest_cmp d) (values_of rs)) → IsStrictlySortedBy digest_cmp ks → AreDigestsBetween t from to ks
-  are_digests ks same ascending = record {
-    exactly = λ d. (
-      (λ has. of_place d (Contains-from_any same_digest d (values_of rs) (sym (same d) ∙ list_any-from_Contains (eq_by_cmp_equiv digests_total) d ks has))),
-      (λ is. Contains-from_any same_digest d ks (same d ∙ list_any-from_Contains (eq_by_cmp_equiv digests_total) d (values_of rs) (at_place d is))),
-    );
-    ascending = ascending;
+  -- the digests of these places, sorted and without repetitions, are the digests of these rounds
+  pub are_digests : (old mid new : List Digest) → old ≡ values_of rs → IsPermutation old mid → IsSorted digest_cmp mid → IsFiltered (DiffersFromLast same) [] mid new → AreDigestsBetween t from to new
+  are_digests old mid new is permutes sorted filters = record {
+    exactly = λ d.
+        let both = same_digests old mid new permutes filters d in
+        (λ has. of_place d (subst (λ xs. Contains xs d) is (both.0 has)), λ among. both.1 (subst (λ xs. Contains xs d) (sym is) (at_place d among)));
+    ascending = ascends mid new sorted filters;
   }
-
--- a set and a list still have the same keys after each gets one more
-pub one_more : {K : Type 0} {R : K → K → Ordering} (o : IsTotalOrder R) (ks ns ys : List K) (y : K) → ((q : K) → list_any (is_at (R q)) ns ≡ cond (is_at (R y) q) true (list_any (is_at (R q)) ks))
-    → ((x : K) → list_any (eq_by_cmp R x) ks ≡ list_any (eq_by_cmp R x) ys) → (x : K) → list_any (eq_by_cmp R x) ns ≡ list_any (eq_by_cmp R x) (ys ++ y ∷ [])
-one_more {R = R} o ks ns ys y put same x =
-    put x ∙ ap (λ b. cond b true (list_any (eq_by_cmp R x) ks)) ((eq_by_cmp_equiv o).symm y x)
-    ∙ ap (cond (eq_by_cmp R x y) true) (same x) ∙ swapped (eq_by_cmp R x y) (list_any (eq_by_cmp R x) ys)
-    ∙ sym (list_any-append (eq_by_cmp R x) ys (y ∷ []))
-  where
-    swapped : (a b : Bool) → cond a true b ≡ (b || (a || false))
-    swapped true true = refl
-    swapped true false = refl
-    swapped false true = refl
-    swapped false false = refl
 
 -- the digests that a loop over entries has read, when it reads one more
 pub values_more : (es : List (Bor Place × Bor Digest)) (e : Bor Place × Bor Digest) → map (λ x. x.1.now) (es ++ e ∷ []) ≡ map (λ x. x.1.now) es ++ e.1.now ∷ []

@@ -1,4 +1,5 @@
 mod AtRound
 mod Authors
 pub mod SlotLemmas
+pub mod Sorted
 mod OfKind

@@ -1,5 +1,5 @@
 //! The first and the certified digests of slots, in one ordered map.
-ghost use Rattle.std.specs.Prelude.{◌≡◌, ◌+◌, ◌<◌, ◌≤◌, ◌^◌};
+ghost use Rattle.std.specs.Prelude.{◌≡◌, ◌+◌, ◌<◌, ◌≤◌, ◌^◌, Contains};
 ghost use Rattle.std.specs.Prelude.{All, IfOk, OnOk, OnErr, IsNone, nat_le, length};
 ghost use Rattle.std.specs.Bool.{MatchBool};
 ghost use Rattle.std.specs.List.Sorted.{IsStrictlySortedBy};
@@ -12,8 +12,8 @@ ghost use Rattle.nw_rounds.specs.Places.{ArePlacesBetween, BeginsBelow, place_cm
 use crate::kind::DigestKind;
 use nw_digest::{Digest, NoMemory, Round};
 use std::alloc::{Allocator, Global};
+use std::collections::BTreeMap;
 use std::collections::btree_map::Range;
-use std::collections::{BTreeMap, BTreeSet};
 use std::marker::Model;
 
 // A round number and an author. The number is a `u64` because ranges end at the round after the last one, which no `Round` has.
@@ -121,11 +121,10 @@ impl<A: Allocator> Rounds<A> {
     pub fn digests_up_to(&self, alloc: Global, round: Round) -> Result<Vec<Digest>, NoMemory>
         ensures { IfOk result (λ list. AreDigestsBetween self.now 0 (round + 1) list.items) }
     {
-        let found = digests_between(alloc, &self.digests, 0, round.get() + 1)?;
-        Ok(found.into_iter().collect(alloc)?)
+        digests_between(alloc, &self.digests, 0, round.get() + 1)
     }
 
-    /// The digests of all slots, first and certified. A digest may be listed twice. `NoMemory` if an allocation fails.
+    /// The digests of all slots, first and certified. One that is both in a slot is listed once. `NoMemory` if an allocation fails.
     pub fn all_digests(&self, alloc: Global) -> Result<Vec<Digest>, NoMemory>
         ensures { IfOk result (λ list. HasAllDigests self.now list.items) }
     {
@@ -154,14 +153,17 @@ impl<A: Allocator> Rounds<A> {
     }
 }
 
-/// The digests, in the order of their places. `NoMemory` if an allocation fails.
+/// The digests, in the order of their places, without repetitions in a row. `NoMemory` if an allocation fails.
 fn listed<A: Allocator>(
     alloc: Global,
     digests: &BTreeMap<Place, Digest, A>,
 ) -> Result<Vec<Digest>, NoMemory>
-    ensures { IfOk result (λ list. list.items ≡ values digests.now) }
+    ensures { IfOk result
+        (λ list. (d : Digest) → Contains (values digests.now) d → Contains list.items d) }
 {
-    Ok(digests.values().copied().collect(alloc)?)
+    let mut list: Vec<Digest> = digests.values().copied().collect(alloc)?;
+    list.dedup();
+    Ok(list)
 }
 
 /// The authors with a digest in the round. `NoMemory` if an allocation fails.
@@ -190,21 +192,23 @@ fn add_author(authors: &mut Vec<u16>, author: u16) -> Result<(), NoMemory>
     }
 }
 
-/// All digests of the rounds `from..to`. `NoMemory` if an allocation fails.
+/// All digests of the rounds `from..to`, ascending and each once. `NoMemory` if an allocation fails.
 fn digests_between<A: Allocator>(
     alloc: Global,
     digests: &BTreeMap<Place, Digest, A>,
     from: u64,
     to: u64,
-) -> Result<BTreeSet<Digest>, NoMemory>
+) -> Result<Vec<Digest>, NoMemory>
     requires { from ≤ to }
     ensures { IfOk result
-        (λ found. AreDigestsBetween (tables_of digests.now.entries) from to found.keys) }
+        (λ found. AreDigestsBetween (tables_of digests.now.entries) from to found.items) }
 {
-    let mut found = BTreeSet::new(alloc);
+    let mut found = Vec::new(alloc);
     for (_place, digest) in places_between(digests, from, to) {
-        found.insert(*digest)?;
+        found.push(*digest)?;
     }
+    found.sort_unstable();
+    found.dedup();
     Ok(found)
 }
 

@@ -20,7 +20,7 @@ use Rattle.nw_book.specs.Turn.{IsRefusal, MatchesCommittee, event, next_number}
 use Rattle.nw_book.specs.declared.error.NoStep.{NoStep}
 use Rattle.nw_book.proofs.Answered.{answered as book_answered}
 use Rattle.nw_book.proofs.Prefixes.{prefix_trans, prefix_next}
-use Rattle.nw_shared_store.specs.Held.{Current, IsEnded, IsFound, IsHeld, IsTaken, IsUntaken, next_run}
+use Rattle.nw_shared_store.specs.Locked.{Current, IsEnded, IsFound, IsLocked, IsTaken, IsUntaken, next_run}
 use Rattle.nw_shared_store.specs.Rule.{SeatView, HasLock, HasValue, Knows, KnowsRun, MayJoin, answered, holder_of, knowing, new_journal, newcomer, reader_of, with_journal}
 use Rattle.nw_shared_store.specs.Session.{IsSessionAt, IsRefused, IsPresent, HasSeen, IsRestarted, IsSameSession}
 use Rattle.nw_shared_store.specs.declared.error.Refusal.TheVariants as refusals
@@ -56,10 +56,10 @@ module _ (accepts : Meaning) (at : TableId) (run id : ℕ) (seat : TableId) (m0 
   begins : IsPrefixOf m0.0.first now.history
   begins = knows_now.known same_run m0.0.first session.knows_first
 
-  history_is : IsHeld accepts now → IsHistoryOf accepts (origin_of m0.0.first) now.history
-  history_is held = record {
+  history_is : IsLocked accepts now → IsHistoryOf accepts (origin_of m0.0.first) now.history
+  history_is locked = record {
     starts = λ i. record { committee = sym begins.committee i; limits = sym begins.limits i; base = sym begins.base i };
-    legal = held.legal;
+    legal = locked.legal;
   }
 
   pub may_call : HasValue m1 (λ g. id < g.made)
@@ -69,15 +69,15 @@ module _ (accepts : Meaning) (at : TableId) (run id : ℕ) (seat : TableId) (m0 
   refused under why untaken =
       let u : IsUntaken accepts now j.id under why = subst (λ (n : ℕ). IsUntaken accepts now n under why) (sym session.id_is) (of_value m0.0 m1 lock untaken) in (
         u.in_turn,
-        (now.history, history_is u.held, subst (λ n. IsRefusal now.history j.id n under why) (same_number now.history j part) u.refusal),
+        (now.history, history_is u.locked, subst (λ n. IsRefusal now.history j.id n under why) (same_number now.history j part) u.refusal),
       )
 
-  pub present : IsHeld accepts now → IsPresent accepts (origin_of m0.0.first) j now.history now.made
-  present held = record {
-    of_store = history_is held;
+  pub present : IsLocked accepts now → IsPresent accepts (origin_of m0.0.first) j now.history now.made
+  present locked = record {
+    of_store = history_is locked;
     own = part;
     begins = knows_now.known same_run;
-    below = held.below;
+    below = locked.below;
     session = knows_now.made acts;
   }
 
@@ -100,8 +100,8 @@ module _ (accepts : Meaning) (at : TableId) (run id : ℕ) (seat : TableId) (m0 
       knows_first = Contains-append_left j.known (now.history ∷ []) m0.0.first session.knows_first;
     })
 
-    pub seen : (then : Story → Type 0) → HasValue m1 (λ g. IsHeld accepts g × then g.history) → HasSeen accepts (view_at at m0) (view_at at m3) then
-    seen then found = let t : IsHeld accepts now × then now.history = of_value m0.0 m1 lock found in (now.history, now.made, present t.0, knows_it, t.1)
+    pub seen : (then : Story → Type 0) → HasValue m1 (λ g. IsLocked accepts g × then g.history) → HasSeen accepts (view_at at m0) (view_at at m3) then
+    seen then found = let t : IsLocked accepts now × then now.history = of_value m0.0 m1 lock found in (now.history, now.made, present t.0, knows_it, t.1)
 
     pub same_reader : IsSameSession (view_at at m0) (view_at at m3)
     same_reader = same_session at m0 m3 (knowing j now.history) read_is refl
@@ -133,7 +133,7 @@ module _ (accepts : Meaning) (at : TableId) (run id : ℕ) (seat : TableId) (m0 
 
       pub restarted : IsRestarted accepts (view_at at m0) (view_at at m3) last
       restarted = record {
-        present = (now.made, subst (λ (h : Story). IsPresent accepts (origin_of m0.0.first) j h now.made) (sym end.2.last_is) (present end.2.held));
+        present = (now.made, subst (λ (h : Story). IsPresent accepts (origin_of m0.0.first) j h now.made) (sym end.2.last_is) (present end.2.locked));
         lock = refl;
         run = ap (λ (m : Me Current SeatView). m.0.run) is_next ∙ ap (λ n. n + 1) (sym same_run);
         first = ap (λ (m : Me Current SeatView). m.0.first) is_next ∙ ap reopened (sym end.2.last_is);
@@ -204,7 +204,7 @@ module _ (accepts : Meaning) (at : TableId) (run id : ℕ) (seat : TableId) (m0 
 
       -- the answer follows some history of the run
       pub explained : IsExplained accepts (origin_of m0.0.first) j m3.0.journal call reply front
-      explained = subst (λ (i : Journal). IsExplained accepts (origin_of m0.0.first) j i call reply front) (sym next_is) (now.history, history_is step.held, answer)
+      explained = subst (λ (i : Journal). IsExplained accepts (origin_of m0.0.first) j i call reply front) (sym next_is) (now.history, history_is step.locked, answer)
 
       -- the session's journal is all that the answer's history has of it
       pub own : IsJournalOf front j.id m3.0.journal

@@ -6,7 +6,7 @@ use Rattle.atomic_table.specs.Seated.{TableId}
 use Rattle.atomic_table.specs.Table.{Me}
 use Rattle.nw_sig.specs.Signed.{Meaning}
 use Rattle.nw_model.specs.declared.event.Event.{Event}
-use Rattle.nw_shared_store.specs.Held.{Current, IsEnrolled}
+use Rattle.nw_shared_store.specs.Locked.{Current, IsEnrolled}
 use Rattle.nw_shared_store.specs.Rule.{SeatView, HasLock, HasValue, IsSeatAt, Knows, hearer, holder_of, newcomer}
 use Rattle.nw_shared_store.specs.Session.{IsSessionAt, IsSessionOf, StoreId}
 use Rattle.nw_shared_store.proofs.Seated.{of_value, view_at}
@@ -26,7 +26,7 @@ module _ (accepts : Meaning) (store : StoreId) (run id : ℕ) (m0 m1 m2 : Me Cur
   may_enrol = (
     now,
     (λ i. (view_is i, (new.1 ∙ ap (λ (g : Current). (0, g) ∷ []) new.2.grows) i)),
-    new.2.held.below,
+    new.2.locked.below,
   )
 
   module _ (m3 : Me Current SeatView) (ended : (g : Current) → m2.0.holds ≡ Some g → m3 ≡ (newcomer g g.made, [])) where

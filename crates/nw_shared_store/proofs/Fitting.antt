@@ -12,7 +12,7 @@ use Rattle.nw_history.specs.Story.{Story}
 use Rattle.nw_history.specs.Prefix.{IsPrefixOf}
 use Rattle.nw_book.specs.Settled.{IsJournalOf}
 use Rattle.nw_book.proofs.Prefixes.{prefix_itself}
-use Rattle.nw_shared_store.specs.Held.{Current}
+use Rattle.nw_shared_store.specs.Locked.{Current}
 use Rattle.nw_shared_store.specs.Rule.{SeatView, new_journal, hearer, newcomer, Knows, FitsValue, AllFit, NoneHolds, IsValueOf, IsOneHistory}
 
 -- the two places of the value

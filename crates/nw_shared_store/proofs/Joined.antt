@@ -3,7 +3,7 @@ use Rattle.std.proofs.Common.{◌≡◌, ℕ, ◌≤◌, true, List, [], ◌∷�
 use mathlib.Core.Option.{none}
 use Rattle.atomic_table.specs.Table.{Me, gives, step, Allows}
 use Rattle.nw_history.specs.Story.{Story}
-use Rattle.nw_shared_store.specs.Held.{Current, next_run}
+use Rattle.nw_shared_store.specs.Locked.{Current, next_run}
 use Rattle.nw_shared_store.specs.Rule.{SeatView, holder_of, newcomer, Knows, FitsValue, IsOneHistory, Joins, MayJoin}
 use Rattle.nw_shared_store.proofs.Fitting.{newcomer_fits, gives_back}
 use Rattle.nw_shared_store.proofs.Slots.{out_at, second_of}

@@ -5,15 +5,15 @@ use Rattle.atomic_table.specs.Seated.{TableId}
 use Rattle.atomic_table.specs.Table.{Me}
 use Rattle.nw_sig.specs.Signed.{Meaning}
 use Rattle.nw_history.specs.Story.{Story, IsLegalStory}
-use Rattle.nw_shared_store.specs.Held.{Current, IsHeld}
+use Rattle.nw_shared_store.specs.Locked.{Current, IsLocked}
 use Rattle.nw_shared_store.specs.Rule.{SeatView, HasLock, HasValue, Knows, KnowsRun, MayJoin, holder_of, knowing, new_journal, newcomer, reader_of, with_journal}
 use Rattle.nw_shared_store.specs.Session.{IsSessionAt, IsRenewed}
 use Rattle.nw_shared_store.proofs.Seated.{view_at, of_value, may_join, joined_is, session_joined}
 use Rattle.nw_shared_store.proofs.Answered.{read_is, session_knowing, seen, same_reader}
 
 module _ (accepts : Meaning) (at : TableId) (run id : ℕ) (seat : TableId) (m0 m1 : Me Current SeatView) (session : IsSessionAt at run id seat m0) (lock : HasLock m0.0 m1 (λ now. Knows now m0.0))
-    (m2 : Me Current SeatView) (same : m2 ≡ m1) (present_run : ℕ) (found : HasValue m1 (λ g. (present_run ≡ g.run) × IsHeld accepts g)) where
-  seen_is : (present_run ≡ lock.0.run) × IsHeld accepts lock.0
+    (m2 : Me Current SeatView) (same : m2 ≡ m1) (present_run : ℕ) (found : HasValue m1 (λ g. (present_run ≡ g.run) × IsLocked accepts g)) where
+  seen_is : (present_run ≡ lock.0.run) × IsLocked accepts lock.0
   seen_is = of_value m0.0 m1 lock found
 
   seen_view : m2.0 ≡ m1.0

@@ -1,16 +1,17 @@
 -- The seat of a session, from what each step on its lock says.
-use Rattle.std.proofs.Common.{◌≡◌, ℕ, true, List, [], ◌∷◌, Option, Result, Ok, Err, refl, sym, ap, ◌∙◌, subst}
+use Rattle.std.proofs.Common.{◌≡◌, ◌<◌, ℕ, true, List, [], ◌∷◌, Option, Result, Ok, Err, refl, sym, ap, ◌∙◌, subst, arith}
+use mathlib.Core.Option.{none}
 use Rattle.std.specs.Prelude.{⊤}
 use Rattle.std.specs.Result.{IfErr}
 use Rattle.std.proofs.lemmas.List.Elements.{Contains-push}
 use Rattle.atomic_table.specs.Seated.{TableId}
-use Rattle.atomic_table.specs.Table.{Me}
+use Rattle.atomic_table.specs.Table.{Me, Step, Allows, step}
 use Rattle.nw_committee.specs.declared.member.Member.{Member}
 use Rattle.nw_sig.specs.Signed.{Meaning}
 use Rattle.nw_history.specs.Story.{Story}
 use Rattle.nw_book.specs.Journal.{Journal, origin_of}
-use Rattle.nw_shared_store.specs.Held.{Current, IsHeld}
-use Rattle.nw_shared_store.specs.Rule.{SeatView, HasLock, HasValue, Knows, KnowsRun, MayJoin, freed, holder_of, member, newcomer, with_journal}
+use Rattle.nw_shared_store.specs.Locked.{Current, IsLocked}
+use Rattle.nw_shared_store.specs.Rule.{SeatView, HasLock, HasValue, IsOneHistory, Knows, KnowsRun, MayJoin, freed, holder_of, member, newcomer, with_journal}
 use Rattle.nw_shared_store.specs.Session.{IsSessionAt, SessionView, IsRefused, IsSameSession, IsUnavailable, IsUnseen}
 use Rattle.nw_shared_store.specs.declared.error.Refusal.{Refusal}
 use Rattle.nw_shared_store.specs.declared.error.Refusal.TheVariants as refusals
@@ -36,6 +37,15 @@ same_session at m n j is id = record {
 -- a session whose seat is as before
 pub unchanged_session : (at : TableId) (m n : Me Current SeatView) → n ≡ m → IsSameSession (view_at at m) (view_at at n)
 unchanged_session at m n is = record { lock = refl; run = ap (λ (x : Me Current SeatView). x.0.run) is; first = ap (λ (x : Me Current SeatView). x.0.first) is; id = ap (λ (x : Me Current SeatView). x.0.journal.id) is }
+
+-- a step may give the value back and free the lock: it keeps the rule, and `then` holds of the seat after it
+abbrev pub MayEnd : Story → ℕ → ℕ → (Step Current → Me Current SeatView → ℕ → Me Current SeatView → Type 0) → Me Current SeatView → Type 0
+MayEnd key slots id then m = Allows (IsOneHistory key) slots id m 0 (λ _. 0) (λ _. then (step slots 0 0 0 none) m 0)
+
+-- what the table asks of such a step
+pub may_end : {Same : Type 0} {words : ℕ} (key : Story) (slots id : ℕ) (then : Step Current → Me Current SeatView → ℕ → Me Current SeatView → Type 0) (m n : Me Current SeatView)
+    → Same → words ≡ 1 → n ≡ m → MayEnd key slots id then m → Same × (0 < words) × MayEnd key slots id then n
+may_end key slots id then m n same one is may = (same, subst (λ k. 0 < k) (sym one) (omega arith), subst (MayEnd key slots id then) (sym is) may)
 
 -- a seat that took the lock may give the value back as it was
 pub may_free : (v : SeatView) (m1 m : Me Current SeatView) → HasLock v m1 (λ now. Knows now v) → m ≡ m1 → HasLock (freed m.0) m (λ now. ⊤)
@@ -80,9 +90,9 @@ as_free m0 m1 m n is_member lock is free = free ∙ (ap (λ (x : Me Current Seat
 
 -- a session took the lock, and its run is the present one
 pub took_in : (accepts : Meaning) (v : SeatView) (m1 m2 : Me Current SeatView) (run found : ℕ) (lock : HasLock v m1 (λ now. Knows now v)) → m2 ≡ m1 → v.run ≡ run → found ≡ run
-    → HasValue m1 (λ g. (found ≡ g.run) × IsHeld accepts g) → HasLock v m2 (λ now. KnowsRun now v)
+    → HasValue m1 (λ g. (found ≡ g.run) × IsLocked accepts g) → HasLock v m2 (λ now. KnowsRun now v)
 took_in accepts v m1 m2 run found lock same is is_found has =
-    let here : (found ≡ lock.0.run) × IsHeld accepts lock.0 = of_value v m1 lock has in
+    let here : (found ≡ lock.0.run) × IsLocked accepts lock.0 = of_value v m1 lock has in
     (lock.0, same ∙ lock.1, record { same = is ∙ (sym is_found ∙ here.0); knows = lock.2 })
 
 module _ {then : Current → Type 0} (at : TableId) (run id : ℕ) (seat : TableId) (m0 m1 : Me Current SeatView) (session : IsSessionAt at run id seat m0) (lock : HasLock m0.0 m1 then) where

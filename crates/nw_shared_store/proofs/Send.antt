@@ -14,9 +14,9 @@ use Rattle.nw_sig.specs.declared.scheme.Scheme.{Ghosts}
 use Rattle.nw_history.specs.contracts.front.Front as front
 use Rattle.nw_book.proofs.Send.{book_send}
 use Rattle.nw_shared_store.specs.contracts.rule.OneHistory as rule
-use Rattle.nw_shared_store.specs.contracts.rule.OneHistoryTableRuleHeldSeatViewFront.TheImpl.{ghosts as rule_ghosts}
-use Rattle.nw_shared_store.specs.contracts.held.Held as held
-use Rattle.nw_shared_store.specs.contracts.held.Held.TheInside as held_inside
+use Rattle.nw_shared_store.specs.contracts.rule.OneHistoryTableRuleLockedSeatViewFront.TheImpl.{ghosts as rule_ghosts}
+use Rattle.nw_shared_store.specs.contracts.locked.Locked as locked
+use Rattle.nw_shared_store.specs.contracts.locked.Locked.TheInside as locked_inside
 use Rattle.nw_shared_store.specs.contracts.knowledge.Knowledge as knowledge
 use Rattle.nw_shared_store.specs.contracts.knowledge.Written as written
 use Rattle.nw_shared_store.specs.contracts.store.SharedStore as store
@@ -25,20 +25,20 @@ use Rattle.nw_shared_store.specs.contracts.session.SharedSession as session
 use Rattle.nw_shared_store.specs.contracts.session.SharedSession.TheInside as session_inside
 
 module _ (S : RattleType) (g : Ghosts S.Denot) (d : Dict) where
-  held_send : IsSend (held.the_row S g)
-  held_send = view_send (held_inside.the_row S g) _ _ _ _ (declared_send (held_inside.the_type S g) (book_send S g, (search (sendable, crosses) depth 30, (search (sendable, crosses) depth 30, tt))))
+  locked_send : IsSend (locked.the_row S g)
+  locked_send = view_send (locked_inside.the_row S g) _ _ _ _ (declared_send (locked_inside.the_type S g) (book_send S g, (search (sendable, crosses) depth 30, (search (sendable, crosses) depth 30, tt))))
 
   -- what a seat knows
   abbrev SeatView : RattleType
-  SeatView = knowledge.the_row (held.the_row S g) (front.the_row S g) (written.the_row S g)
+  SeatView = knowledge.the_row (locked.the_row S g) (front.the_row S g) (written.the_row S g)
 
   -- the lock
   abbrev Lock : RattleType
-  Lock = table.the_row (held.the_row S g) SeatView (front.the_row S g) rule.the_row heap.the_row (rule_ghosts S g d) heap_ghosts
+  Lock = table.the_row (locked.the_row S g) SeatView (front.the_row S g) rule.the_row heap.the_row (rule_ghosts S g d) heap_ghosts
 
   lock_send : IsSend Lock
-  lock_send = declared_send (table.the_type (held.the_row S g) SeatView (front.the_row S g) rule.the_row heap.the_row (rule_ghosts S g d) heap_ghosts) (
-    search (sendable, crosses, held_send, shared.the_send) depth 30,
+  lock_send = declared_send (table.the_type (locked.the_row S g) SeatView (front.the_row S g) rule.the_row heap.the_row (rule_ghosts S g d) heap_ghosts) (
+    search (sendable, crosses, locked_send, shared.the_send) depth 30,
     (
       search (sendable, crosses) depth 30,
       (
@@ -49,8 +49,8 @@ module _ (S : RattleType) (g : Ghosts S.Denot) (d : Dict) where
   )
 
   lock_sync : IsSync Lock
-  lock_sync = declared_sync (table.the_type (held.the_row S g) SeatView (front.the_row S g) rule.the_row heap.the_row (rule_ghosts S g d) heap_ghosts) (
-    search (sendable, crosses, held_send, shared.the_sync) depth 30,
+  lock_sync = declared_sync (table.the_type (locked.the_row S g) SeatView (front.the_row S g) rule.the_row heap.the_row (rule_ghosts S g d) heap_ghosts) (
+    search (sendable, crosses, locked_send, shared.the_sync) depth 30,
     (
       search (sendable, crosses) depth 30,
       (
@@ -66,5 +66,5 @@ module _ (S : RattleType) (g : Ghosts S.Denot) (d : Dict) where
   pub shared_session_send : IsSend (session.the_row S g)
   shared_session_send = view_send (session_inside.the_row S g) _ _ _ _ (declared_send (session_inside.the_type S g) (
     search (sendable, crosses, lock_send, lock_sync) depth 40,
-    (seat.the_send (held.the_row S g) SeatView held_send, (search (sendable, crosses) depth 30, (search (sendable, crosses) depth 30, tt))),
+    (seat.the_send (locked.the_row S g) SeatView locked_send, (search (sendable, crosses) depth 30, (search (sendable, crosses) depth 30, tt))),
   ))

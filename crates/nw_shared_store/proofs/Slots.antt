@@ -3,7 +3,7 @@ use Rattle.std.proofs.Common.{◌≡◌, ℕ, List, [], ◌∷◌, Option, Some,
 use Rattle.std.specs.Prelude.{IfSome}
 use Rattle.std.specs.Result.{IfOk, IfErr}
 use Rattle.atomic_table.specs.Table.{Me, rest}
-use Rattle.nw_shared_store.specs.Held.{Current}
+use Rattle.nw_shared_store.specs.Locked.{Current}
 use Rattle.nw_shared_store.specs.Rule.{SeatView, HasValue}
 
 -- the value alone in the slot

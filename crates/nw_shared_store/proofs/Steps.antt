@@ -10,7 +10,7 @@ use Rattle.nw_model.specs.declared.event.Event.{Event}
 use Rattle.nw_history.specs.Story.{Story, with_event}
 use Rattle.nw_history.specs.Prefix.{IsPrefixOf}
 use Rattle.nw_book.proofs.Prefixes.{prefix_itself, prefix_trans, prefix_next}
-use Rattle.nw_shared_store.specs.Held.{Current}
+use Rattle.nw_shared_store.specs.Locked.{Current}
 use Rattle.nw_shared_store.specs.Rule.{SeatView, hearer, holder_of, with_journal, freed, newcomer, Knows, FitsValue, AllFit, NoneHolds, IsValueOf, IsOneHistory, answered, Comes, Acquires, Returns, Releases, Enrols, reader_of, Reads}
 use Rattle.nw_shared_store.proofs.Grown.{part_own, part_other, part_new, events_other}
 use Rattle.nw_shared_store.proofs.Fitting.{IsHome, IsOut, known_more, with_holds, hearer_fits, newcomer_fits, fits_set, still_fits, gives_back}

@@ -1,4 +1,4 @@
 pub mod Rule
-pub mod Held
+pub mod Locked
 pub mod Session
 pub mod Settlement

@@ -13,7 +13,7 @@ use Rattle.nw_history.specs.Story.{Story}
 use Rattle.nw_history.specs.Prefix.{IsPrefixOf}
 use Rattle.nw_book.specs.Journal.{Journal}
 use Rattle.nw_book.specs.Settled.{IsJournalOf}
-use Rattle.nw_shared_store.specs.Held.{Current, next_run}
+use Rattle.nw_shared_store.specs.Locked.{Current, next_run}
 use Rattle.nw_shared_store.specs.declared.knowledge.Knowledge.{Knowledge}
 
 -- what a seat knows, as contracts see it

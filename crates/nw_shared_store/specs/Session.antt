@@ -11,7 +11,7 @@ use Rattle.nw_book.specs.Journal.{Journal, IsHistoryOf, origin_of}
 use Rattle.nw_book.specs.Settled.{IsJournalOf}
 use Rattle.nw_history.specs.Prefix.{IsPrefixOf}
 use Rattle.nw_book.specs.declared.error.NoStep.TheVariants as causes
-use Rattle.nw_shared_store.specs.Held.{Current}
+use Rattle.nw_shared_store.specs.Locked.{Current}
 use Rattle.nw_shared_store.specs.Rule.{SeatView, IsSeatAt, knowing, member, new_journal}
 use Rattle.nw_shared_store.specs.declared.error.Refusal.{Refusal}
 use Rattle.nw_shared_store.specs.declared.error.Refusal.TheVariants as refusals

@@ -12,9 +12,9 @@
 #![tactic(auto)]
 
 mod error;
-mod held;
 mod knowledge;
 mod lock;
+mod locked;
 mod looks;
 mod rule;
 mod runs;
@@ -25,5 +25,5 @@ mod work;
 
 pub use error::Refusal;
 pub use session::SharedSession;
-pub use settlement::{Unsettled, settle};
+pub use settlement::{SettleFault, settle};
 pub use store::SharedStore;

@@ -3,7 +3,7 @@ ghost use Rattle.std.specs.Prelude.{◌≡◌, ◌+◌, ◌<◌, ◌∷◌, [], 
 ghost use Rattle.std.specs.Prelude.{IfErr, OnOk, OnErr};
 ghost use Rattle.nw_model.specs.declared.event.Event.{Event};
 ghost use Rattle.nw_history.specs.Story.{with_event};
-ghost use Rattle.nw_shared_store.specs.Held.{Current};
+ghost use Rattle.nw_shared_store.specs.Locked.{Current};
 ghost use Rattle.nw_shared_store.specs.Rule.{HasLock, IsSeatAt, SeatView, Knows, KnowsRun, MayJoin, answered, freed, hearer, holder_of, member, newcomer, reader_of, with_journal};
 ghost use Rattle.nw_shared_store.specs.Session.{IsUnavailable};
 

@@ -1,24 +1,24 @@
 //! The rule of the lock's table, and the steps on it.
-use crate::held::Held;
 use crate::knowledge::{Knowledge, Written};
+use crate::locked::Locked;
 use atomic_table::{Play, Table, TableRule};
 use nw_book::Front;
 use nw_sig::Scheme;
 use std::alloc::Global;
 
 /// What a seat knows.
-pub(crate) type SeatView<S> = Knowledge<Held<S>, Front<S>, Written<S>>;
+pub(crate) type SeatView<S> = Knowledge<Locked<S>, Front<S>, Written<S>>;
 
 /// The lock: a table of one word and one slot, which has the value.
-pub(crate) type Lock<S> = Table<Held<S>, SeatView<S>, Front<S>, OneHistory, Global>;
+pub(crate) type Lock<S> = Table<Locked<S>, SeatView<S>, Front<S>, OneHistory, Global>;
 
 /// A seat: with it a session, a note or a single call takes its steps.
-pub(crate) type Seat<S> = atomic_table::Seat<Held<S>, SeatView<S>>;
+pub(crate) type Seat<S> = atomic_table::Seat<Locked<S>, SeatView<S>>;
 
 /// The rule: there is one history, and it fits what each seat knows.
 pub struct OneHistory;
 
-impl<S: Scheme> TableRule<Held<S>, SeatView<S>, Front<S>> for OneHistory {
+impl<S: Scheme> TableRule<Locked<S>, SeatView<S>, Front<S>> for OneHistory {
     ghost use Rattle.nw_shared_store.specs.Rule.{IsOneHistory, hearer};
 
     ghost holds = { λ first s. IsOneHistory first s };
@@ -29,7 +29,7 @@ impl<S: Scheme> TableRule<Held<S>, SeatView<S>, Front<S>> for OneHistory {
 /// The step that makes a new seat.
 pub(crate) struct Come;
 
-impl<S: Scheme> Play<Held<S>, SeatView<S>> for Come {
+impl<S: Scheme> Play<Locked<S>, SeatView<S>> for Come {
     ghost use Rattle.nw_shared_store.specs.Rule.{Comes};
 
     ghost then = { Comes };
@@ -38,7 +38,7 @@ impl<S: Scheme> Play<Held<S>, SeatView<S>> for Come {
 /// The step that takes the lock.
 pub(crate) struct Acquire;
 
-impl<S: Scheme> Play<Held<S>, SeatView<S>> for Acquire {
+impl<S: Scheme> Play<Locked<S>, SeatView<S>> for Acquire {
     ghost use Rattle.nw_shared_store.specs.Rule.{Acquires};
 
     ghost then = { Acquires };
@@ -47,7 +47,7 @@ impl<S: Scheme> Play<Held<S>, SeatView<S>> for Acquire {
 /// The step that gives the lock back, with the value as it was.
 pub(crate) struct Return;
 
-impl<S: Scheme> Play<Held<S>, SeatView<S>> for Return {
+impl<S: Scheme> Play<Locked<S>, SeatView<S>> for Return {
     ghost use Rattle.nw_shared_store.specs.Rule.{Returns};
 
     ghost then = { Returns };
@@ -56,7 +56,7 @@ impl<S: Scheme> Play<Held<S>, SeatView<S>> for Return {
 /// The step that gives the lock back after a call.
 pub(crate) struct Release;
 
-impl<S: Scheme> Play<Held<S>, SeatView<S>> for Release {
+impl<S: Scheme> Play<Locked<S>, SeatView<S>> for Release {
     ghost use Rattle.nw_shared_store.specs.Rule.{Releases};
 
     ghost then = { Releases };
@@ -65,7 +65,7 @@ impl<S: Scheme> Play<Held<S>, SeatView<S>> for Release {
 /// The step that gives the lock back after a session was made.
 pub(crate) struct Enrol;
 
-impl<S: Scheme> Play<Held<S>, SeatView<S>> for Enrol {
+impl<S: Scheme> Play<Locked<S>, SeatView<S>> for Enrol {
     ghost use Rattle.nw_shared_store.specs.Rule.{Enrols};
 
     ghost then = { Enrols };
@@ -74,7 +74,7 @@ impl<S: Scheme> Play<Held<S>, SeatView<S>> for Enrol {
 /// The step that gives the lock back after the history was read.
 pub(crate) struct Read;
 
-impl<S: Scheme> Play<Held<S>, SeatView<S>> for Read {
+impl<S: Scheme> Play<Locked<S>, SeatView<S>> for Read {
     ghost use Rattle.nw_shared_store.specs.Rule.{Reads};
 
     ghost then = { Reads };
@@ -83,7 +83,7 @@ impl<S: Scheme> Play<Held<S>, SeatView<S>> for Read {
 /// The step that gives the lock back, after which the seat's session is of the run of the value.
 pub(crate) struct Join;
 
-impl<S: Scheme> Play<Held<S>, SeatView<S>> for Join {
+impl<S: Scheme> Play<Locked<S>, SeatView<S>> for Join {
     ghost use Rattle.nw_shared_store.specs.Rule.{Joins};
 
     ghost then = { Joins };

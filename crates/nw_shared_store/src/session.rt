@@ -170,7 +170,7 @@ impl<S: Scheme> SharedSession<S> {
     /// Hears the note, which is a history of the same run: returns `true`, and from then on the note is a prefix of the history of every
     /// answer of this session in this run. Returns `false` if the note is no prefix of the run's history. This is not a call.
     ///
-    /// It compares the session, number and call of each event of the note, without the lock.
+    /// It compares the bases, and the session, number and call of each event of the note, without the lock.
     ///
     /// `Busy`: another thread has the lock. `Ended`: the run of the session has ended. `NoMemory`: a reference count is at its limit.
     pub fn hear(&mut self, note: &Front<S>) -> Result<bool, Refusal>

@@ -11,7 +11,7 @@ use thiserror::Error;
 
 /// Why sessions do not settle.
 #[derive(Clone, Copy, Debug, PartialEq, Eq, Error)]
-pub enum Unsettled {
+pub enum SettleFault {
     /// The store of the first session made another number of sessions than were given, or none was given.
     #[error("{given} sessions were given")]
     Unfinished {
@@ -32,9 +32,9 @@ pub enum Unsettled {
 /// Settles the sessions, which must be all that one store made, in the order of their ids, while none of them makes a call. All must be of the
 /// present run. Returns the run's history: it is an interleaving of the journals of these sessions, and each front in a journal is a prefix of it.
 ///
-/// The sessions can go on. Each reads the history of its own store under the lock, and all these histories are compared. The cost grows with
-/// the number of sessions times the number of events.
-pub fn settle<S: Scheme>(sessions: &mut [SharedSession<S>]) -> Result<Front<S>, Unsettled>
+/// The sessions can go on. Each reads the history of its own store under the lock, and all these histories are compared. For each
+/// session, the cost grows with the number of events and with the base.
+pub fn settle<S: Scheme>(sessions: &mut [SharedSession<S>]) -> Result<Front<S>, SettleFault>
     ensures settled { IfOk result
         (λ history. AreSettled history (map (λ s. s.journal) sessions.new)) }
     ensures of_store { IfOk result (λ history.
@@ -43,7 +43,7 @@ pub fn settle<S: Scheme>(sessions: &mut [SharedSession<S>]) -> Result<Front<S>, 
 {
     let given = sessions.len();
     let Some((first, others)) = sessions.split_first_mut() else {
-        return Err(Unsettled::Unfinished { given });
+        return Err(SettleFault::Unfinished { given });
     };
     let history = first_history(first, given)?;
     compare(others, 1, &history)?;
@@ -54,20 +54,20 @@ pub fn settle<S: Scheme>(sessions: &mut [SharedSession<S>]) -> Result<Front<S>, 
 fn first_history<S: Scheme>(
     session: &mut SharedSession<S>,
     given: usize,
-) -> Result<Front<S>, Unsettled>
+) -> Result<Front<S>, SettleFault>
     ensures part { IfOk result (λ history. IsPart S.accepts 0 history session.new) }
     ensures below { IfOk result (λ history. All (λ e. e.session < given) history.events) }
     ensures few { OnOk result (given < 2 ^ 16) }
     ensures same { kept session.new ≡ kept session.old }
 {
     match session.history() {
-        Err(why) => Err(Unsettled::Refused(why)),
+        Err(why) => Err(SettleFault::Refused(why)),
         Ok((history, made)) => {
             if usize::from(made) != given {
-                return Err(Unsettled::Unfinished { given });
+                return Err(SettleFault::Unfinished { given });
             }
             if session.id() != 0 {
-                return Err(Unsettled::Differs { session: 0 });
+                return Err(SettleFault::Differs { session: 0 });
             }
             Ok(history)
         }
@@ -79,7 +79,7 @@ fn compare<S: Scheme>(
     sessions: &mut [SharedSession<S>],
     from: u16,
     history: &Front<S>,
-) -> Result<(), Unsettled>
+) -> Result<(), SettleFault>
     requires { from + length sessions.old < 2 ^ 16 }
     ensures parts { OnOk result (AreParts S.accepts from history.now sessions.new) }
     ensures same { map kept sessions.new ≡ map kept sessions.old }
@@ -98,18 +98,15 @@ fn compare_one<S: Scheme>(
     session: &mut SharedSession<S>,
     id: u16,
     history: &Front<S>,
-) -> Result<(), Unsettled>
+) -> Result<(), SettleFault>
     ensures part { OnOk result (IsPart S.accepts id history.now session.new) }
     ensures same { kept session.new ≡ kept session.old }
 {
-    if session.id() != id {
-        return Err(Unsettled::Differs { session: id });
-    }
     match session.history() {
-        Err(why) => Err(Unsettled::Refused(why)),
+        Err(why) => Err(SettleFault::Refused(why)),
         Ok((now, _)) => {
-            if now.len() != history.len() || !now.is_prefix_of(history) {
-                return Err(Unsettled::Differs { session: id });
+            if session.id() != id || now.len() != history.len() || !now.is_prefix_of(history) {
+                return Err(SettleFault::Differs { session: id });
             }
             Ok(())
         }

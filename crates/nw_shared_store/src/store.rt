@@ -6,8 +6,8 @@ ghost use Rattle.nw_history.specs.Story.{IsLegalStory, first_origin, story_of};
 ghost use Rattle.nw_shared_store.specs.Rule.{newcomer};
 ghost use Rattle.nw_shared_store.specs.Session.{IsOfStore, IsPassing, IsSessionAt, IsSessionOf};
 
-use crate::held::Held;
 use crate::lock::{end_enrolment, give_back, new_seat, try_take};
+use crate::locked::Locked;
 use crate::rule::{Lock, Seat};
 use crate::work::{compact_at, enrol_at, history_at};
 use crate::{Refusal, SharedSession};
@@ -68,7 +68,7 @@ impl<S: Scheme> SharedStore<S> {
     {
         let first = book.history().try_clone()?;
         let mut slots = Vec::with_capacity(alloc, 1)?;
-        slots.push_reserved(Held::over(book));
+        slots.push_reserved(Locked::over(book));
         match Lock::new(alloc, &[0], slots, &first) {
             Ok((table, seat)) => {
                 drop(seat);

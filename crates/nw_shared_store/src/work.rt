@@ -6,7 +6,7 @@ ghost use Rattle.nw_history.specs.Story.{state_of};
 ghost use Rattle.nw_book.specs.Answer.{IsTicketFor, front_of, reply_of};
 ghost use Rattle.nw_book.specs.Answered.{IsLookAfter};
 ghost use Rattle.nw_book.specs.Command.{call_of, committee_of};
-ghost use Rattle.nw_shared_store.specs.Held.{IsEnded, IsEnrolled, IsFound, IsHeld, IsTaken, IsUntaken};
+ghost use Rattle.nw_shared_store.specs.Locked.{IsEnded, IsEnrolled, IsFound, IsLocked, IsTaken, IsUntaken};
 ghost use Rattle.nw_shared_store.specs.Rule.{HasValue, IsSeatAt};
 
 use crate::rule::{Lock, Seat};
@@ -19,13 +19,13 @@ use std::alloc::Global;
 /// The number of the run.
 pub(crate) fn run_at<S: Scheme>(lock: &Lock<S>, seat: &mut Seat<S>) -> u64
     requires lock { IsSeatAt lock.now.shared.table_id seat.old.table_id }
-    requires held { HasValue seat.old.me (λ g. ⊤) }
+    requires locked { HasValue seat.old.me (λ g. ⊤) }
     ensures at { seat.new.table_id ≡ seat.old.table_id }
     ensures same { seat.new.me ≡ seat.old.me }
-    ensures run { HasValue seat.old.me (λ g. (result ≡ g.run) × IsHeld S.accepts g) }
+    ensures run { HasValue seat.old.me (λ g. (result ≡ g.run) × IsLocked S.accepts g) }
 {
-    let held = seat.slot_mut(&lock.shared, 0);
-    held.run()
+    let locked = seat.slot_mut(&lock.shared, 0);
+    locked.run()
 }
 
 /// Takes the step of the session's next call on the value.
@@ -37,7 +37,7 @@ pub(crate) fn call_at<S: Scheme>(
     command: &Command<S>,
 ) -> Result<Done<S>, NoStep>
     requires lock { IsSeatAt lock.now.shared.table_id seat.old.table_id }
-    requires held { HasValue seat.old.me (λ g. id < g.made) }
+    requires locked { HasValue seat.old.me (λ g. id < g.made) }
     ensures at { seat.new.table_id ≡ seat.old.table_id }
     ensures view { seat.new.me.0 ≡ seat.old.me.0 }
     ensures taken { IfOk result (λ done. HasValue seat.old.me (λ g. HasValue seat.new.me (λ n.
@@ -46,8 +46,8 @@ pub(crate) fn call_at<S: Scheme>(
         IsUntaken S.accepts g id (committee_of command.now) why)) }
     ensures unchanged { OnErr result (seat.new.me ≡ seat.old.me) }
 {
-    let held = seat.slot_mut(&lock.shared, 0);
-    held.call(alloc, id, command)
+    let locked = seat.slot_mut(&lock.shared, 0);
+    locked.call(alloc, id, command)
 }
 
 /// Takes the step of a causal read as the session's next call on the value.
@@ -59,7 +59,7 @@ pub(crate) fn open_at<S: Scheme>(
     digest: Digest,
 ) -> Result<Result<Ticket<S>, Done<S>>, NoStep>
     requires lock { IsSeatAt lock.now.shared.table_id seat.old.table_id }
-    requires held { HasValue seat.old.me (λ g. id < g.made) }
+    requires locked { HasValue seat.old.me (λ g. id < g.made) }
     ensures at { seat.new.table_id ≡ seat.old.table_id }
     ensures view { seat.new.me.0 ≡ seat.old.me.0 }
     ensures taken { IfOk result (λ answer. HasValue seat.old.me (λ g. HasValue seat.new.me (λ n.
@@ -69,22 +69,22 @@ pub(crate) fn open_at<S: Scheme>(
         IsUntaken S.accepts g id None why)) }
     ensures unchanged { OnErr result (seat.new.me ≡ seat.old.me) }
 {
-    let held = seat.slot_mut(&lock.shared, 0);
-    held.open(alloc, id, digest)
+    let locked = seat.slot_mut(&lock.shared, 0);
+    locked.open(alloc, id, digest)
 }
 
 /// Makes one more session on the value, unless the limit is reached. Returns the number of the run, and that of the session.
 pub(crate) fn enrol_at<S: Scheme>(lock: &Lock<S>, seat: &mut Seat<S>) -> Option<(u64, u16)>
     requires lock { IsSeatAt lock.now.shared.table_id seat.old.table_id }
-    requires held { HasValue seat.old.me (λ g. ⊤) }
+    requires locked { HasValue seat.old.me (λ g. ⊤) }
     ensures at { seat.new.table_id ≡ seat.old.table_id }
     ensures view { seat.new.me.0 ≡ seat.old.me.0 }
     ensures made { IfSome result (λ made. HasValue seat.old.me (λ g. HasValue seat.new.me (λ n.
         IsEnrolled S.accepts g n made.0 made.1))) }
     ensures unchanged { IfNone result (seat.new.me ≡ seat.old.me) }
 {
-    let held = seat.slot_mut(&lock.shared, 0);
-    held.enrol()
+    let locked = seat.slot_mut(&lock.shared, 0);
+    locked.enrol()
 }
 
 /// A clone of the history, and the number of sessions made so far.
@@ -95,14 +95,14 @@ pub(crate) fn history_at<S: Scheme>(
     seat: &mut Seat<S>,
 ) -> Result<(Front<S>, u16), NoMemory>
     requires lock { IsSeatAt lock.now.shared.table_id seat.old.table_id }
-    requires held { HasValue seat.old.me (λ g. ⊤) }
+    requires locked { HasValue seat.old.me (λ g. ⊤) }
     ensures at { seat.new.table_id ≡ seat.old.table_id }
     ensures same { seat.new.me ≡ seat.old.me }
     ensures found { IfOk result (λ found. HasValue seat.old.me (λ g.
         IsFound S.accepts g found.0 found.1)) }
 {
-    let held = seat.slot_mut(&lock.shared, 0);
-    held.history()
+    let locked = seat.slot_mut(&lock.shared, 0);
+    locked.history()
 }
 
 /// Freezes all complete blocks of the value as one generation.
@@ -112,12 +112,12 @@ pub(crate) fn compact_at<S: Scheme>(
     alloc: Global,
 ) -> Result<(), NoMemory>
     requires lock { IsSeatAt lock.now.shared.table_id seat.old.table_id }
-    requires held { HasValue seat.old.me (λ g. ⊤) }
+    requires locked { HasValue seat.old.me (λ g. ⊤) }
     ensures at { seat.new.table_id ≡ seat.old.table_id }
     ensures same { seat.new.me ≡ seat.old.me }
 {
-    let held = seat.slot_mut(&lock.shared, 0);
-    held.compact(alloc)
+    let locked = seat.slot_mut(&lock.shared, 0);
+    locked.compact(alloc)
 }
 
 /// What the state after the history of the value has in the slot of this round and author.
@@ -128,14 +128,14 @@ pub(crate) fn look_at<S: Scheme>(
     author: u16,
 ) -> Look
     requires lock { IsSeatAt lock.now.shared.table_id seat.old.table_id }
-    requires held { HasValue seat.old.me (λ g. ⊤) }
+    requires locked { HasValue seat.old.me (λ g. ⊤) }
     ensures at { seat.new.table_id ≡ seat.old.table_id }
     ensures same { seat.new.me ≡ seat.old.me }
     ensures look { HasValue seat.old.me (λ g.
-        IsHeld S.accepts g × IsLookAfter g.history (round, author) result) }
+        IsLocked S.accepts g × IsLookAfter g.history (round, author) result) }
 {
-    let held = seat.slot_mut(&lock.shared, 0);
-    held.look(round, author)
+    let locked = seat.slot_mut(&lock.shared, 0);
+    locked.look(round, author)
 }
 
 /// What the state after the history of the value has in each slot of this round.
@@ -148,14 +148,14 @@ pub(crate) fn look_round_at<S: Scheme>(
     round: Round,
 ) -> Result<Vec<(u16, Look)>, NoMemory>
     requires lock { IsSeatAt lock.now.shared.table_id seat.old.table_id }
-    requires held { HasValue seat.old.me (λ g. ⊤) }
+    requires locked { HasValue seat.old.me (λ g. ⊤) }
     ensures at { seat.new.table_id ≡ seat.old.table_id }
     ensures same { seat.new.me ≡ seat.old.me }
     ensures looks { IfOk result (λ looks. HasValue seat.old.me (λ g.
-        IsHeld S.accepts g × AreLooks (state_of g.history) round looks.items)) }
+        IsLocked S.accepts g × AreLooks (state_of g.history) round looks.items)) }
 {
-    let held = seat.slot_mut(&lock.shared, 0);
-    held.look_round(alloc, round)
+    let locked = seat.slot_mut(&lock.shared, 0);
+    locked.look_round(alloc, round)
 }
 
 /// Ends the run of the value and begins the next. Returns the last history of the run, and the number of the next run.
@@ -167,13 +167,13 @@ pub(crate) fn restart_at<S: Scheme>(
     alloc: Global,
 ) -> Result<(Front<S>, u64), NoMemory>
     requires lock { IsSeatAt lock.now.shared.table_id seat.old.table_id }
-    requires held { HasValue seat.old.me (λ g. ⊤) }
+    requires locked { HasValue seat.old.me (λ g. ⊤) }
     ensures at { seat.new.table_id ≡ seat.old.table_id }
     ensures view { seat.new.me.0 ≡ seat.old.me.0 }
     ensures restarted { IfOk result (λ ended. HasValue seat.old.me (λ g. HasValue seat.new.me (λ n.
         IsEnded S.accepts g n ended.0 ended.1))) }
     ensures unchanged { OnErr result (seat.new.me ≡ seat.old.me) }
 {
-    let held = seat.slot_mut(&lock.shared, 0);
-    held.restart(alloc)
+    let locked = seat.slot_mut(&lock.shared, 0);
+    locked.restart(alloc)
 }

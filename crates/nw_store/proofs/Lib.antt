@@ -1,6 +1,7 @@
 pub mod Begun
 pub mod Crossing
 pub mod Kept
+mod Taken
 pub mod Explained
 pub mod Interleaved
 pub mod Lent

@@ -1,6 +1,6 @@
-//! This crate maps digests to values in a critical-bit trie.
+//! This crate maps digests to values in critical-bit tries.
 //!
-//! Its contract: [`Trie`] is a finite map from digests to values, ascending by digest. It uses only `nw_digest`.
+//! Its contract: [`Trie`] and [`DigestMap`] are finite maps from digests to values. It uses only `nw_digest`.
 #![tactic(auto)]
 
 mod bits;

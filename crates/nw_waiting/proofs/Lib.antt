@@ -3,3 +3,4 @@ pub mod Members
 pub mod Orders
 mod Parted
 pub mod Relation
+mod UnmetOf

@@ -18,7 +18,7 @@ use Rattle.nw_waiting.specs.Parted.{AreSameForOthers, HaveHolders, IsMetForAll, 
 use Rattle.nw_waiting.proofs.Orders.{pair_tied, pairs_apart, pairs_total}
 use Rattle.nw_waiting.proofs.Relation.{contains_without_holder, contains_without_wanted}
 
-at_unmet : (s : Pairs) (ks : List Wanted) (w : Wanted) (h : Digest) → contains (parted s ks).unmet (w, h) ≡ (contains s (w, h) && is_one ks w)
+pub at_unmet : (s : Pairs) (ks : List Wanted) (w : Wanted) (h : Digest) → contains (parted s ks).unmet (w, h) ≡ (contains s (w, h) && is_one ks w)
 at_unmet s ks w h = contains-retain s (λ p. is_one ks p.0) (w, h) (λ x e. ap (λ (p : Pair). is_one ks p.0) (sym (pairs_apart (w, h) x e)))
 
 -- any set with exactly the pairs of these parents is the set of unmet pairs

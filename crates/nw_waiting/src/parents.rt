@@ -2,7 +2,8 @@
 ghost use Rattle.std.specs.Prelude.{◌≡◌, IfOk, OnErr, OnOk, if◌then◌else◌, take, true};
 ghost use Rattle.std.specs.BTreeSet.{IsOrdered};
 ghost use Rattle.std.specs.FinSet as set;
-ghost use Rattle.nw_waiting.specs.Pairs.{AreFirst, AreHolders, LacksCount, WantedCount};
+ghost use Rattle.nw_model.specs.Missing.{ListsExactly, wanted_cmp};
+ghost use Rattle.nw_waiting.specs.Pairs.{AreFirst, AreHolders, Lacks, LacksCount, WantedCount};
 ghost use Rattle.nw_waiting.specs.Pairs.{without_holder, without_wanted};
 ghost use Rattle.nw_waiting.specs.Parted.{AreSameForOthers, IsMetForAll};
 
@@ -92,8 +93,9 @@ impl<A: Allocator + Copy> MissingParents<A> {
         self.lacking.satisfy(wanted)
     }
 
-    /// Removes all missing parents of the holder. Allocates nothing.
-    pub fn drop_holder(&mut self, holder: Digest)
+    /// Removes all missing parents of the holder, and returns how many it had. Allocates nothing.
+    pub fn drop_holder(&mut self, holder: Digest) -> usize
+        ensures count { LacksCount self.old.lacking holder result }
         ensures unmet { self.new.unmet ≡ without_holder self.old.unmet holder }
         ensures lacking { self.new.lacking ≡ without_holder self.old.lacking holder }
     {
@@ -103,6 +105,7 @@ impl<A: Allocator + Copy> MissingParents<A> {
                 let _was_unmet = self.unmet.remove(wanted);
             }
         }
+        missing.len()
     }
 
     /// The number of the holder's missing parents. Allocates nothing.
@@ -110,6 +113,21 @@ impl<A: Allocator + Copy> MissingParents<A> {
         ensures { LacksCount self.now.lacking holder result }
     {
         self.lacking.lacks(holder)
+    }
+
+    /// The holder's unmet parents, ascending. `NoMemory` if an allocation fails.
+    pub fn unmet_of(&self, alloc: Global, holder: Digest) -> Result<Vec<Wanted>, NoMemory>
+        ensures { IfOk result
+            (λ list. ListsExactly wanted_cmp (Lacks self.now.unmet holder) list.items) }
+    {
+        let mut unmet = Vec::new(alloc);
+        for wanted in self.lacking.missing_of(holder) {
+            if self.unmet.contains(wanted) {
+                unmet.push(*wanted)?;
+            }
+        }
+        unmet.sort_unstable();
+        Ok(unmet)
     }
 
     /// The number of different unmet parents. Allocates nothing.

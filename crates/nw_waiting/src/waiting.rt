@@ -98,14 +98,21 @@ impl<A: Allocator + Copy> Waiting<A> {
         self.holders.contains_key(wanted)
     }
 
+    /// The holder's missing parents, each once. Allocates nothing.
+    pub fn missing_of(&self, holder: Digest) -> &[Wanted]
+        ensures { AreMissing self.now holder result.now }
+    {
+        match self.missing.get(&holder) {
+            None => &[],
+            Some(missing) => missing.as_slice(),
+        }
+    }
+
     /// The number of the holder's missing parents. Allocates nothing.
     pub fn lacks(&self, holder: Digest) -> usize
         ensures { LacksCount self.now holder result }
     {
-        match self.missing.get(&holder) {
-            None => 0,
-            Some(missing) => missing.len(),
-        }
+        self.missing_of(holder).len()
     }
 
     /// The number of different wanted parents. Allocates nothing.

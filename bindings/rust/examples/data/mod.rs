@@ -1,8 +1,11 @@
 // The messages of corpus.txt. `make.py` signed them beforehand, since the crate makes no signatures.
 
+use narwhal_store::{Checked, Committee, Digest, Limits, Message, PublicKey, Session, Store};
+use std::error::Error;
+
 /// The public keys of the four members.
-pub fn keys() -> Vec<narwhal_store::PublicKey> {
-    let key = |key: Vec<u8>| narwhal_store::PublicKey(key.try_into().expect("a key has 32 bytes"));
+pub fn keys() -> Vec<PublicKey> {
+    let key = |key: Vec<u8>| PublicKey(key.try_into().expect("a key has 32 bytes"));
     values("key").into_iter().map(key).collect()
 }
 
@@ -14,6 +17,25 @@ pub fn values(kind: &str) -> Vec<Vec<u8>> {
         .filter(|(word, _)| *word == kind)
         .map(|(_, hex)| bytes(hex))
         .collect()
+}
+
+/// A session of a store that has all messages, and the digests that they certify, in order.
+#[allow(dead_code)] // Only doc examples call it.
+pub fn filled() -> Result<(Session, Vec<Digest>), Box<dyn Error>> {
+    let committee = Committee::equal(&keys())?;
+    let mut session = Store::new(&committee, Limits::default())?.session()?;
+    let mut certified = Vec::new();
+    for message in values("message") {
+        match Message::check(&committee, &message)? {
+            Checked::Block(block) => drop(session.write(&block)?),
+            Checked::Certificate(certificate) => {
+                drop(session.certify(&certificate)?);
+                certified.push(certificate.subject().digest);
+            }
+            Checked::Vote(_) => {}
+        }
+    }
+    Ok((session, certified))
 }
 
 fn bytes(hex: &str) -> Vec<u8> {

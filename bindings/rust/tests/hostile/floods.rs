@@ -110,7 +110,7 @@ fn twins_of_one_slot_stay_within_the_bound() {
         let twin = flooded.block(&flooded.com.block(2, 0, &[], &transactions).0);
         assert_eq!(flooded.write(&twin), WriteReply::Equivocates(voted));
     }
-    // The first block's event has its body.
+    // The first block's event has its message.
     assert!(flooded.store.history_bytes() < 1_500 * 150 + 500);
     assert_eq!(flooded.session.status().unwrap().reply().blocks, 1);
 }

@@ -309,7 +309,7 @@ impl<'a> World<'a> {
         // The block that was read is the last one of the list.
         let key = (list[list.len() - 1].digest, *floor);
         assert_eq!(
-            (ticket.digest().0, ticket.floor()),
+            (ticket.digest().0, ticket.garbage_round()),
             key,
             "what a ticket is for"
         );

@@ -441,8 +441,9 @@ fn open(committee: &Committee, plan: &Plan) -> Store {
 /// The most bytes that the event of the call can take.
 fn most_bytes_of(call: &Call) -> u64 {
     match call {
-        Call::Write(block) => 300 + block.body.len() as u64,
-        Call::Certify(certificate) => 300 + certificate.message.len() as u64,
+        // The message is a tag, the body and a signature.
+        Call::Write(block) => 250 + 65 + block.body.len() as u64,
+        Call::Certify(certificate) => 250 + certificate.message.len() as u64,
         Call::Missing(most) => 150 + 48 * u64::from(*most),
         Call::MissingOf(_) => 150 + 48 * 100,
         _ => 150,

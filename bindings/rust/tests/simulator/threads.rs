@@ -528,7 +528,11 @@ impl Answered {
         let Got::Ticket(ticket) = &self.got else {
             panic!("no ticket for {:?}", self.told.call);
         };
-        assert_eq!(ticket.floor(), floor, "the garbage round of a ticket");
+        assert_eq!(
+            ticket.garbage_round(),
+            floor,
+            "the garbage round of a ticket"
+        );
         let walked: Vec<_> = ticket.walk().expect("memory").collect();
         assert_eq!(walked.len(), list.len(), "the length of a walk");
         for (block, expected) in walked.iter().zip(list) {

@@ -50,7 +50,7 @@ impl<S: Scheme> Book<S> {
             call,
             reply,
         };
-        let (front, kept) = self.record(alloc, event)?;
+        let (front, kept) = self.add_event(alloc, event)?;
         let answer = Entry::of(front);
         Ok((Done::of(answer), Entry::of(kept)))
     }
@@ -79,12 +79,12 @@ impl<S: Scheme> Book<S> {
         match self.freeze_for(alloc, digest)? {
             Ok(view) => {
                 let event = read_event(session, number, digest, Reply::Ready);
-                let (front, kept) = self.record(alloc, event)?;
+                let (front, kept) = self.add_event(alloc, event)?;
                 Ok((Ok(Ticket::new(digest, front, view)), Entry::of(kept)))
             }
             Err(refusal) => {
                 let event = read_event(session, number, digest, Reply::Causal(refusal));
-                let (front, kept) = self.record(alloc, event)?;
+                let (front, kept) = self.add_event(alloc, event)?;
                 let answer = Entry::of(front);
                 Ok((Err(Done::of(answer)), Entry::of(kept)))
             }
@@ -120,7 +120,7 @@ impl<S: Scheme> Book<S> {
     /// the answer and for the journal.
     ///
     /// `NoMemory`: an allocation failed. Nothing changed.
-    fn record(&mut self, alloc: Global, event: Event) -> Result<(Front<S>, Front<S>), NoMemory>
+    fn add_event(&mut self, alloc: Global, event: Event) -> Result<(Front<S>, Front<S>), NoMemory>
         requires turn { IsInTurn self.old event.session event.number }
         requires room { HasRoom self.old }
         requires admitted { IsAdmitted S.accepts self.old.committee event.call }

@@ -6,7 +6,7 @@ ghost use Rattle.nw_codec.specs.Fits.{CertificateFits, certificate_size, vote_si
 ghost use Rattle.nw_codec.specs.Typed.{IsCertificate, IsSubject, IsSeal, IsVote};
 ghost use Rattle.nw_codec.specs.Spelled.{Spells};
 
-use super::sink::{Front, Sink};
+use super::sink::{Filled, Sink};
 use crate::limits::{CERTIFICATE_TAG, VOTE_TAG};
 use crate::{Certificate, Message, Seal, Subject, Vote};
 use nw_digest::NoMemory;
@@ -84,8 +84,8 @@ impl Certificate {
         ensures text { Spells (take (certificate_size self.now) buffer.new) (Message.Certificate self.now) }
         ensures rest { drop (certificate_size self.now) buffer.new ≡ drop (certificate_size self.now) buffer.old }
     {
-        let mut front = Front { buffer, filled: 0 };
-        let Ok(()) = put_certificate(&mut front, self);
+        let mut buffer = Filled { buffer, filled: 0 };
+        let Ok(()) = put_certificate(&mut buffer, self);
     }
 }
 
@@ -106,7 +106,7 @@ impl Vote {
         ensures text { Spells (take vote_size buffer.new) (Message.Vote self.now) }
         ensures rest { drop vote_size buffer.new ≡ drop vote_size buffer.old }
     {
-        let mut front = Front { buffer, filled: 0 };
-        let Ok(()) = put_vote(&mut front, self);
+        let mut buffer = Filled { buffer, filled: 0 };
+        let Ok(()) = put_vote(&mut buffer, self);
     }
 }

@@ -65,13 +65,13 @@ impl Sink for Sha256 {
 
 /// A borrowed buffer, filled from the front.
 #[derive(Drop)]
-pub(super) struct Front<'a> {
+pub(super) struct Filled<'a> {
     pub(super) buffer: &'a mut [u8],
     pub(super) filled: usize,
     ghost within: { filled ≤ length buffer.now },
 }
 
-impl Sink for Front<'_> {
+impl Sink for Filled<'_> {
     type Refusal = Infallible;
 
     ghost use Rattle.std.specs.Prelude.{◌-◌};

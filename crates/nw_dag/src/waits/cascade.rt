@@ -70,7 +70,7 @@ impl Waits {
     pub(super) fn cascade(&mut self, held: &StateTables, first: usize)
         requires due { IsCascading held.now.state self.old.missing.unmet self.old.missing.lacking
             (drop first self.old.completions.fresh.items) self.old.completions.pending }
-        ensures settled { IsAtRest held.now.state self.new.missing.unmet self.new.missing.lacking
+        ensures at_rest { IsAtRest held.now.state self.new.missing.unmet self.new.missing.lacking
             self.new.completions.pending }
         ensures grown { Grows held.now.state (IsReady held.now.state self.old.missing.lacking)
             self.old.missing.lacking self.new.missing.lacking
@@ -90,7 +90,7 @@ impl Waits {
     pub(crate) fn arrive(&mut self, held: &StateTables, digest: Digest)
         requires { IsAtRestWithout held.now.state digest self.old.missing.unmet self.old.missing.lacking
             self.old.completions.pending }
-        ensures settled { IsAtRest held.now.state self.new.missing.unmet self.new.missing.lacking
+        ensures at_rest { IsAtRest held.now.state self.new.missing.unmet self.new.missing.lacking
             self.new.completions.pending }
         ensures grown { Grows held.now.state
             (λ d. IsReady held.now.state self.old.missing.lacking d × (d ≡ digest → ⊥)) self.old.missing.lacking

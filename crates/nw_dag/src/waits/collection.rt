@@ -56,12 +56,8 @@ impl Waits {
         ensures most { length self.new.completions.fresh.items + self.new.completions.pending
             ≡ length self.old.completions.fresh.items + self.old.completions.pending }
     {
-        let lacked_nothing = lacks_nothing(&self.missing, holder);
-        self.forget(holder);
-        if lacked_nothing {
-            return;
-        }
-        if held.standing(&holder).is_some() {
+        let lacked = self.forget(holder);
+        if lacked > 0 && held.standing(&holder).is_some() {
             self.completions.add(holder);
         }
     }
@@ -87,7 +83,7 @@ impl Waits {
     pub(crate) fn collect(&mut self, held: &StateTables, holders: &[Digest], dropped: usize)
         requires { IsCollecting held.now.state self.old.missing.unmet self.old.missing.lacking
             self.old.completions.pending holders.now dropped }
-        ensures settled { IsAtRest held.now.state self.new.missing.unmet self.new.missing.lacking
+        ensures at_rest { IsAtRest held.now.state self.new.missing.unmet self.new.missing.lacking
             self.new.completions.pending }
         ensures grown { Grows held.now.state (IsReady held.now.state self.old.missing.lacking)
             self.old.missing.lacking self.new.missing.lacking

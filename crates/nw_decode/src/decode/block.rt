@@ -14,7 +14,7 @@ ghost use Rattle.nw_codec.specs.Spelled.{Spells};
 ghost use Rattle.nw_codec.specs.Typed.{IsRef};
 
 use super::fields::{
-    field, front, number_of, read_count, read_items, read_last_signature, read_number, read_round,
+    field, first, number_of, read_count, read_items, read_last_signature, read_number, read_round,
     until,
 };
 use crate::DecodeError;
@@ -191,7 +191,7 @@ fn parent_of(text: &[u8]) -> (Ref, &[u8])
     ensures { IsRef result.0 × (text.now ≡ parent_bytes result.0 ++ result.1.now) }
 {
     let (author, rest) = number_of(text);
-    let (digest, rest) = front::<32>(rest);
+    let (digest, rest) = first::<32>(rest);
     (
         Ref {
             author,

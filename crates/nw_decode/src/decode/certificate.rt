@@ -12,7 +12,7 @@ ghost use Rattle.nw_codec.specs.Spelled.{Spells};
 ghost use Rattle.nw_codec.specs.Typed.{IsSeal};
 
 use super::fields::{
-    at_end, field, front, number_of, read_count, read_items, read_last_signature, read_number,
+    at_end, field, first, number_of, read_count, read_items, read_last_signature, read_number,
     subject_of,
 };
 use crate::DecodeError;
@@ -107,7 +107,7 @@ fn seal_of(text: &[u8]) -> (Seal, &[u8])
     ensures { IsSeal result.0 × (text.now ≡ seal_bytes result.0 ++ result.1.now) }
 {
     let (signer, rest) = number_of(text);
-    let (signature, rest) = front::<64>(rest);
+    let (signature, rest) = first::<64>(rest);
     (
         Seal {
             signer,

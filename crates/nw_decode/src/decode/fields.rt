@@ -1,11 +1,11 @@
 //! Readers of fields and of lists of items, which blocks, certificates and votes share.
-ghost use Rattle.std.specs.Prelude.{◌≡◌, ℕ, suc, ◌+◌, ◌<◌, ◌≤◌, ◌++◌, [], Option, Some, None};
+ghost use Rattle.std.specs.Prelude.{◌≡◌, ℕ, suc, ◌+◌, ◌^◌, ◌<◌, ◌≤◌, ◌++◌, [], Option, Some, None};
 ghost use Rattle.std.specs.Prelude.{List, length, take, drop, IfOk, MatchResult};
 ghost use Rattle.nw_decode.specs.declared.error.DecodeError.TheVariants.{Short};
 ghost use Rattle.nw_decode.specs.Faults.{Stage, AtEnd, comes_after, Reaches, FaultFrom};
 ghost use Rattle.nw_decode.specs.Parts.{NumberAt, RoundAt, ItemsAt, LastSignature};
 ghost use Rattle.nw_decode.specs.Parts.{ReadsCount, AreItems, IsLast};
-ghost use Rattle.nw_codec.specs.Grammar.{subject_bytes};
+ghost use Rattle.nw_codec.specs.Grammar.{round_bytes, subject_bytes};
 ghost use Rattle.nw_codec.specs.Typed.{IsSubject};
 
 use crate::DecodeError;
@@ -22,7 +22,7 @@ pub(super) fn field<const N: usize>(text: &[u8]) -> Result<(&[u8; N], &[u8]), De
 }
 
 /// The first `N` bytes of the text, and the rest.
-pub(crate) fn front<const N: usize>(text: &[u8]) -> (&[u8; N], &[u8])
+pub(crate) fn first<const N: usize>(text: &[u8]) -> (&[u8; N], &[u8])
     requires { N ≤ length text.now }
     ensures front { result.0.now ≡ take N text.now }
     ensures back { result.1.now ≡ drop N text.now }
@@ -35,7 +35,7 @@ pub(crate) fn number_of(text: &[u8]) -> (u16, &[u8])
     requires { 2 ≤ length text.now }
     ensures { NumberAt text.now result.0 result.1.now }
 {
-    let (bytes, rest) = front::<2>(text);
+    let (bytes, rest) = first::<2>(text);
     (u16::from_be_bytes(*bytes), rest)
 }
 
@@ -44,20 +44,17 @@ pub(super) fn read_number(text: &[u8]) -> Result<(u16, &[u8]), DecodeError>
     ensures { MatchResult result (λ x. NumberAt text.now x.0 x.1.now)
         (λ e. (length text.now < 2) × (e ≡ Short)) }
 {
-    if text.len() < 2 {
-        return Err(DecodeError::Short);
-    }
-    Ok(number_of(text))
+    let (bytes, rest) = field::<2>(text)?;
+    Ok((u16::from_be_bytes(*bytes), rest))
 }
 
-/// The number of six bytes at the front of the text, and the rest.
-fn round_number_of(text: &[u8]) -> (u64, &[u8])
-    requires { 6 ≤ length text.now }
-    ensures { RoundAt text.now result.0 result.1.now }
+/// The round that the six bytes encode, as a number.
+fn round_number(bytes: &[u8; 6]) -> u64
+    ensures low { result < 2 ^ 48 }
+    ensures bytes { round_bytes result ≡ bytes.now }
 {
-    let (bytes, rest) = front::<6>(text);
     let [a, b, c, d, e, f] = *bytes;
-    (u64::from_be_bytes([0, 0, a, b, c, d, e, f]), rest)
+    u64::from_be_bytes([0, 0, a, b, c, d, e, f])
 }
 
 /// The round of six bytes at the front of the text, and the rest.
@@ -65,8 +62,8 @@ pub(crate) fn round_of(text: &[u8]) -> (Round, &[u8])
     requires { 6 ≤ length text.now }
     ensures { RoundAt text.now result.0 result.1.now }
 {
-    let (number, rest) = round_number_of(text);
-    (Round::new(number).unwrap(), rest)
+    let (bytes, rest) = first::<6>(text);
+    (Round::new(round_number(bytes)).unwrap(), rest)
 }
 
 /// The round of six bytes at the front of the text, as a number, and the rest. `Short` if there are fewer bytes.
@@ -74,10 +71,8 @@ pub(super) fn read_round(text: &[u8]) -> Result<(u64, &[u8]), DecodeError>
     ensures { MatchResult result (λ x. RoundAt text.now x.0 x.1.now)
         (λ e. (length text.now < 6) × (e ≡ Short)) }
 {
-    if text.len() < 6 {
-        return Err(DecodeError::Short);
-    }
-    Ok(round_number_of(text))
+    let (bytes, rest) = field::<6>(text)?;
+    Ok((round_number(bytes), rest))
 }
 
 /// The subject that the text encodes.
@@ -85,7 +80,7 @@ pub(crate) fn subject_of(text: &[u8; 40]) -> Subject
     ensures typed { IsSubject result }
     ensures bytes { text.now ≡ subject_bytes result }
 {
-    let (digest, rest) = front::<32>(text);
+    let (digest, rest) = first::<32>(text);
     let (round, rest) = round_of(rest);
     let (author, _) = number_of(rest);
     Subject {

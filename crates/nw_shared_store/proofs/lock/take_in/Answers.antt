@@ -7,8 +7,8 @@ use Rattle.nw_shared_store.proofs.lock.take_in.Goals as goal
 pub returns-in_err-try_take-clause-refused : goal.returns-in_err-try_take-clause-refused
 returns-in_err-try_take-clause-refused g c = of_cause IsUnavailable refusals.Busy c.from_residual.result tt (search rules)
 
-pub run_at-requires-clause-held : goal.run_at-requires-clause-held
-run_at-requires-clause-held g c = has_value _ _ c.in_ok-try_take.ensures.got
+pub run_at-requires-clause-locked : goal.run_at-requires-clause-locked
+run_at-requires-clause-locked g c = has_value _ _ c.in_ok-try_take.ensures.got
 
 pub give_back-requires-clause-same : goal.give_back-requires-clause-same
 give_back-requires-clause-same g c = may_free _ _ _ c.in_ok-try_take.ensures.got c.run_at.ensures.same

@@ -3,7 +3,7 @@ use Rattle.std.specs.Prelude.{◌==◌}
 use mathlib.Core.Option.{none}
 use prog.Atomic.{either}
 use Rattle.atomic_table.specs.Table.{Allows, step}
-use Rattle.nw_shared_store.specs.Held.{Current}
+use Rattle.nw_shared_store.specs.Locked.{Current}
 use Rattle.nw_shared_store.specs.Rule.{IsOneHistory, Acquires, holder_of}
 use Rattle.nw_shared_store.proofs.Steps.{acquires}
 use Rattle.nw_shared_store.proofs.lock.try_take.Goals as goal

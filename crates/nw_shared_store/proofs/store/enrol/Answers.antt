@@ -4,8 +4,8 @@ use Rattle.nw_shared_store.proofs.Enrolled.{may_enrol, of_store, session_made}
 use Rattle.nw_shared_store.specs.Session.{StoreId}
 use Rattle.nw_shared_store.proofs.store.enrol.Goals as goal
 
-pub enrol_at-requires-clause-held : goal.enrol_at-requires-clause-held
-enrol_at-requires-clause-held g c = has_value _ _ c.in_ok-try_take.ensures.got
+pub enrol_at-requires-clause-locked : goal.enrol_at-requires-clause-locked
+enrol_at-requires-clause-locked g c = has_value _ _ c.in_ok-try_take.ensures.got
 
 pub end_enrolment-requires-clause-made : goal.end_enrolment-requires-clause-made
 end_enrolment-requires-clause-made g c =

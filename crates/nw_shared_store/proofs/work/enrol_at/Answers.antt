@@ -1,12 +1,12 @@
 use Rattle.std.proofs.Common.{ℕ}
-use Rattle.nw_shared_store.specs.Held.{IsEnrolled}
+use Rattle.nw_shared_store.specs.Locked.{IsEnrolled}
 use Rattle.nw_shared_store.proofs.Slots.{slot_of, on_some}
 use Rattle.nw_shared_store.proofs.work.enrol_at.Goals as goal
 
-pub slot_mut-held-requires : goal.slot_mut-held-requires
-slot_mut-held-requires g c = let t = c.requires.held in (c.requires.lock.same, (t.0, slot_of c.args.seat.now.me t.0 t.1))
+pub slot_mut-locked-requires : goal.slot_mut-locked-requires
+slot_mut-locked-requires g c = let t = c.requires.locked in (c.requires.lock.same, (t.0, slot_of c.args.seat.now.me t.0 t.1))
 
 pub returns-clause-made : goal.returns-clause-made
 returns-clause-made g c =
-    let t = c.requires.held in
-    on_some c.args.seat.now.me c.slot_mut-held.result.now t.0 c.slot_mut-held.ensures.value t.1 c.enrol.new.self (λ d n (made : ℕ × ℕ). IsEnrolled g.S.Scheme.accepts d n made.0 made.1) c.enrol.result c.enrol.ensures.made
+    let t = c.requires.locked in
+    on_some c.args.seat.now.me c.slot_mut-locked.result.now t.0 c.slot_mut-locked.ensures.value t.1 c.enrol.new.self (λ d n (made : ℕ × ℕ). IsEnrolled g.S.Scheme.accepts d n made.0 made.1) c.enrol.result c.enrol.ensures.made

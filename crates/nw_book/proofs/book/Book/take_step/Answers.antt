@@ -14,7 +14,7 @@ of-requires g c is =
     let event_is = c.of-answer.ensures.event c.args.self.now.events e events in
     not_ready _ _ c.args.call c.in_ok-reply.reply c.requires.no_read c.in_ok-reply.ensures.reply (sym (ap (λ (x : Event). x.reply) event_is) ∙ is)
 
-pub record-requires-2-clause-reply : goal.record-requires-2-clause-reply
-record-requires-2-clause-reply g c =
+pub add_event-requires-clause-reply : goal.add_event-requires-clause-reply
+add_event-requires-clause-reply g c =
     subst (λ q. IsReply (bounds_of c.args.self.now.limits) (state_of c.args.self.now) q c.in_ok-reply.reply) (sym c.«record».ensures)
     (same_step _ _ c.args.call c.in_ok-reply.reply c.in_ok-reply.ensures.reply).0

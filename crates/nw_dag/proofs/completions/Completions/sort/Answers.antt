@@ -1,4 +1,4 @@
-use Rattle.nw_dag.proofs.Ascending.{same_digests, ascends}
+use Rattle.nw_rounds.proofs.Sorted.{same_digests, ascends}
 use Rattle.nw_dag.proofs.completions.Completions.sort.Goals as goal
 
 pub returns-clause-same : goal.returns-clause-same

@@ -12,7 +12,7 @@ view-requires c =
     let waits = c.self.inside.waits in
     let v : Frozen = record { blocks = c.freeze.new.generations.blocks; floor = c.floor.result } in
     let sound : IsSound s = rw c.self.view_is c.refusal.ensures.sound in
-    record { closed = closed s v sound (shown s waits.missing.unmet waits.missing.lacking waits.completions.pending v sound c.self.invariant.settled c.floor.ensures c.in_ok-freeze.ensures.all) }
+    record { closed = closed s v sound (shown s waits.missing.unmet waits.missing.lacking waits.completions.pending v sound c.self.invariant.at_rest c.floor.ensures c.in_ok-freeze.ensures.all) }
 
 pub returns-clause-answer : goal.returns-clause-answer
 returns-clause-answer c =
@@ -20,5 +20,5 @@ returns-clause-answer c =
     let waits = c.self.inside.waits in
     let v : Frozen = record { blocks = c.freeze.new.generations.blocks; floor = c.floor.result } in
     let sound : IsSound s = rw c.self.view_is c.refusal.ensures.sound in
-    let shows : Shows v s = shown s waits.missing.unmet waits.missing.lacking waits.completions.pending v sound c.self.invariant.settled c.floor.ensures c.in_ok-freeze.ensures.all in
+    let shows : Shows v s = shown s waits.missing.unmet waits.missing.lacking waits.completions.pending v sound c.self.invariant.at_rest c.floor.ensures c.in_ok-freeze.ensures.all in
     (c.in_default.ensures.why, rw (← c.self.view_is) (subst (λ (x : Frozen). Shows x s) (sym (ap (λ (v : Seen). v.frozen) c.in_ok-view.ensures)) shows))

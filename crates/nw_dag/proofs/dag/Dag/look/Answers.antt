@@ -15,7 +15,7 @@ returns-clause-look c =
     let s = c.self.inside.held.state in
     let certified = c.match-certified.certified in
     let complete = c.match-certified.stands.1 in
-    let whole = certified_complete s c.self.inside.waits.missing.lacking c.self.invariant.settled.settling.promoted c.certified-certified.ensures.sound (c.args.round, c.args.author) in
+    let whole = certified_complete s c.self.inside.waits.missing.lacking c.self.invariant.at_rest.coming_to_rest.promoted c.certified-certified.ensures.sound (c.args.round, c.args.author) in
     rw (← c.self.view_is) (record {
       floor = c.floor.ensures;
       first = c.first.ensures;

@@ -11,7 +11,7 @@ returns-then-not-lacks_nothing-clause-why c =
     let lacks = c.lacks_nothing.ensures.something c.if-not-lacks_nothing.true in
     let held : IsSome (get s.blocks c.args.digest.now) = search rules in
     let certified : IsSome (get s.certificates c.args.digest.now) = search rules in
-    rw (← c.self.view_is) (held, certified, λ whole. (complete_ready s c.self.inside.waits.missing.lacking c.self.invariant.settled.settling.promoted c.args.digest.now whole).1 lacks.0 lacks.1)
+    rw (← c.self.view_is) (held, certified, λ whole. (complete_ready s c.self.inside.waits.missing.lacking c.self.invariant.at_rest.coming_to_rest.promoted c.args.digest.now whole).1 lacks.0 lacks.1)
 
 pub returns-clause-why : goal.returns-clause-why
 returns-clause-why c =
@@ -19,4 +19,4 @@ returns-clause-why c =
     let held : IsSome (get s.blocks c.args.digest.now) = search rules in
     let certified : IsSome (get s.certificates c.args.digest.now) = search rules in
     let (b, there) = which (get s.blocks c.args.digest.now) held in
-    rw (← c.self.view_is) ((ready_complete s c.self.inside.waits.missing.lacking c.self.invariant.settled.settling.promoted c.block.ensures.sound c.args.digest.now).0 ((b, (there, certified)), c.lacks_nothing.ensures.nothing.0 c.if-not-lacks_nothing.false))
+    rw (← c.self.view_is) ((ready_complete s c.self.inside.waits.missing.lacking c.self.invariant.at_rest.coming_to_rest.promoted c.block.ensures.sound c.args.digest.now).0 ((b, (there, certified)), c.lacks_nothing.ensures.nothing.0 c.if-not-lacks_nothing.false))

@@ -14,10 +14,10 @@ pub returns : goal.returns
 returns c =
     let s : State = c.self.inside.held.state in
     let waits = c.self.inside.waits in
-    let inv = c.self.invariant.settled.settling in
+    let inv = c.self.invariant.at_rest.coming_to_rest in
     let same = ready_complete s waits.missing.lacking inv.promoted c.certificates.ensures.sound in
-    let listed = c.self.invariant.settled.complete in
-    let counts : length listed ≡ c.blocks-3.result - c.self.inside.waits.completions.pending = omega (arith, c.self.invariant.settled.counts, c.blocks-3.ensures) in
+    let listed = c.self.invariant.at_rest.complete in
+    let counts : length listed ≡ c.blocks-3.result - c.self.inside.waits.completions.pending = omega (arith, c.self.invariant.at_rest.counts, c.blocks-3.ensures) in
     let complete : HasCount digest_cmp (IsComplete s) (c.blocks-3.result - c.self.inside.waits.completions.pending) =
     subst (HasCount digest_cmp (IsComplete s)) counts (count_of (IsComplete s) listed inv.listed.once (λ x. (
       λ among. (same x).0 (All-contains (IsReady s waits.missing.lacking) listed x inv.listed.ready among),

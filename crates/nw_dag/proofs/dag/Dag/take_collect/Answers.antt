@@ -22,7 +22,7 @@ collect-requires c =
     let low = c.in_ok-holders.holders.items in
     let is = rw (← c.self.view_is) at (sym c.requires ∙ c.in-Raised.is) in
     let fits = lost_fits s waits.missing.lacking c.args.round c.deref.result.now c.complete_below-complete.result c.complete_below-complete.ensures in
-    collecting s c.raise.new.self.state c.args.round waits.missing.unmet waits.missing.lacking waits.completions.pending low c.deref-3.result.now c.complete_below-complete.result _ c.raise.ensures.state c.digests_up_to.ensures.sound c.self.invariant.settled
+    collecting s c.raise.new.self.state c.args.round waits.missing.unmet waits.missing.lacking waits.completions.pending low c.deref-3.result.now c.complete_below-complete.result _ c.raise.ensures.state c.digests_up_to.ensures.sound c.self.invariant.at_rest
     (higher s c.args.round _ is) c.in_ok-holders.ensures.digests c.deref-3.ensures.value
     (subst (λ xs. HasCompleteBelow s waits.missing.lacking c.args.round xs c.complete_below-complete.result) c.deref.ensures.value c.complete_below-complete.ensures)
     (omega (arith, fits, reply_counts s c.args.round _ is, ap (λ (t : State). len t.blocks) c.raise.ensures.state))
@@ -33,7 +33,7 @@ invariant_of-self c =
     let waits = c.self.inside.waits in
     let new = c.collect.new.self in
     record {
-      settled = c.collect.ensures.settled;
+      at_rest = c.collect.ensures.at_rest;
       frozen = subst (λ (t : State). AreFrozenExcept t new.missing.lacking new.completions.fresh.items c.self.inside.generations.blocks) (sym c.raise.ensures.state)
           (frozen_raised s c.args.round c.digests_up_to.ensures.sound (higher c.self.inside.held.state c.args.round _ (rw (← c.self.view_is) at (sym c.requires ∙ c.in-Raised.is))) c.in_ok-holders.holders.items c.in_ok-holders.ensures.digests waits.missing.lacking new.missing.lacking waits.completions.fresh.items new.completions.fresh.items
           c.self.inside.generations.blocks c.self.invariant.frozen (rw c.raise.ensures.state at c.collect.ensures.grown));

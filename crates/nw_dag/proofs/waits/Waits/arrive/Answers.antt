@@ -16,7 +16,7 @@ returns-in_default c =
     let self = c.args.self.now in
     let never : Stands s c.args.digest → ⊥ = λ stands. not_there c.standing.result c.in_default.is (c.standing.ensures.stands.1 stands) in
     record {
-      settled = not_standing s c.args.digest self.missing.unmet self.missing.lacking self.completions.pending never c.requires;
+      at_rest = not_standing s c.args.digest self.missing.unmet self.missing.lacking self.completions.pending never c.requires;
       grown = grown_none s c.args.digest self.missing.lacking self.completions.fresh.items (λ ready. never ready.0);
     }
 
@@ -45,7 +45,7 @@ pub returns-then-lacks_nothing : goal.returns-then-lacks_nothing
 returns-then-lacks_nothing c =
     let self = c.args.self.now in
     record {
-      settled = c.cascade.ensures.settled;
+      at_rest = c.cascade.ensures.at_rest;
       grown = grown_from c.args.held.now.state c.args.digest self.missing.lacking c.cascade.new.self.missing.lacking self.completions.fresh.items c.add.new.self.fresh.items c.cascade.new.self.completions.fresh.items c.add.ensures.fresh
           (subst (λ (m : Pairs). Grows c.args.held.now.state (IsReady c.args.held.now.state m) m c.cascade.new.self.missing.lacking c.add.new.self.fresh.items c.cascade.new.self.completions.fresh.items) c.meet.ensures.lacking c.cascade.ensures.grown);
     }
@@ -57,7 +57,7 @@ returns-else-lacks_nothing c =
     let lacks = refuted c.lacks_nothing.result (LacksNothing c.meet.new.self.lacking c.args.digest) c.lacks_nothing.ensures.nothing c.if-lacks_nothing.false in
     let never : IsReady s self.missing.lacking c.args.digest → ⊥ = λ ready. lacks (subst (λ (m : Pairs). LacksNothing m c.args.digest) (sym c.meet.ensures.lacking) ready.1) in
     record {
-      settled = subst (λ (m : Pairs). IsAtRest s c.meet.new.self.unmet m self.completions.pending) (sym c.meet.ensures.lacking) (not_ready s c.args.digest self.missing.unmet c.meet.new.self.unmet self.missing.lacking self.completions.pending never
+      at_rest = subst (λ (m : Pairs). IsAtRest s c.meet.new.self.unmet m self.completions.pending) (sym c.meet.ensures.lacking) (not_ready s c.args.digest self.missing.unmet c.meet.new.self.unmet self.missing.lacking self.completions.pending never
           (met_by_name s c.args.digest c.in-Some.name self.missing.unmet c.meet.new.self.unmet c.in-Some.ensures.name (c.standing.ensures.stands.0 (subst IsSome (sym c.in-Some.is) refl)) c.requires.standing c.meet.ensures.unmet) c.requires);
       grown = subst (λ (m : Pairs). Grows s (λ d. IsReady s self.missing.lacking d × (d ≡ c.args.digest → ⊥)) self.missing.lacking m self.completions.fresh.items self.completions.fresh.items) (sym c.meet.ensures.lacking)
           (grown_none s c.args.digest self.missing.lacking self.completions.fresh.items never);

@@ -7,7 +7,7 @@ use Rattle.nw_dag.proofs.waits.Waits.cascade.Given as goal
 abbrev pub invariant-loop-place : goal.invariant-loop-place
 invariant-loop-place l =
     record {
-      settling : IsCascading l.held.state l.self.missing.unmet l.self.missing.lacking (drop l.place l.self.completions.fresh.items) l.self.completions.pending;
+      coming_to_rest : IsCascading l.held.state l.self.missing.unmet l.self.missing.lacking (drop l.place l.self.completions.fresh.items) l.self.completions.pending;
       grown : Grows l.held.state (IsReady l.held.state l.fn.self.missing.lacking) l.fn.self.missing.lacking l.self.missing.lacking l.fn.self.completions.fresh.items l.self.completions.fresh.items;
       most : length l.self.completions.fresh.items + l.self.completions.pending ≡ length l.fn.self.completions.fresh.items + l.fn.self.completions.pending;
     }

@@ -8,8 +8,8 @@ use Rattle.nw_shared_store.proofs.session.SharedSession.look.Goals as goal
 pub returns-in_err-take_in-clause-refused : goal.returns-in_err-take_in-clause-refused
 returns-in_err-take_in-clause-refused g c = unseen_of c.from_residual.result (search rules)
 
-pub look_at-look-requires-clause-held : goal.look_at-look-requires-clause-held
-look_at-look-requires-clause-held g c = session_has_value _ _ _ _ _ _ c.self.invariant c.in_ok-take_in.ensures.got
+pub look_at-look-requires-clause-locked : goal.look_at-look-requires-clause-locked
+look_at-look-requires-clause-locked g c = session_has_value _ _ _ _ _ _ c.self.invariant c.in_ok-take_in.ensures.got
 
 pub end_reading-requires-clause-same : goal.end_reading-requires-clause-same
 end_reading-requires-clause-same g c = session_may_free _ _ _ _ _ _ c.self.invariant c.in_ok-take_in.ensures.got _ c.look_at-look.ensures.same

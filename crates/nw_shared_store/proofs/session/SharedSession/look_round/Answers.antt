@@ -9,8 +9,8 @@ use Rattle.nw_shared_store.proofs.session.SharedSession.look_round.Goals as goal
 pub returns-in_err-take_in-clause-refused : goal.returns-in_err-take_in-clause-refused
 returns-in_err-take_in-clause-refused g c = unseen_of c.from_residual.result (search rules)
 
-pub look_round_at-requires-clause-held : goal.look_round_at-requires-clause-held
-look_round_at-requires-clause-held g c = session_has_value _ _ _ _ _ _ c.self.invariant c.in_ok-take_in.ensures.got
+pub look_round_at-requires-clause-locked : goal.look_round_at-requires-clause-locked
+look_round_at-requires-clause-locked g c = session_has_value _ _ _ _ _ _ c.self.invariant c.in_ok-take_in.ensures.got
 
 pub end_reading-requires-clause-same : goal.end_reading-requires-clause-same
 end_reading-requires-clause-same g c = session_may_free _ _ _ _ _ _ c.self.invariant c.in_ok-take_in.ensures.got _ c.look_round_at.ensures.same

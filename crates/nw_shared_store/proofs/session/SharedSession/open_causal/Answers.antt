@@ -10,8 +10,8 @@ use Rattle.nw_shared_store.proofs.Seated.{session_may_free, refused_of, unchange
 use Rattle.nw_shared_store.proofs.Answered.{may_call, may_end, same_called, refused, session_after, explained, own}
 use Rattle.nw_shared_store.proofs.session.SharedSession.open_causal.Goals as goal
 
-pub open_at-requires-clause-held : goal.open_at-requires-clause-held
-open_at-requires-clause-held g c =
+pub open_at-requires-clause-locked : goal.open_at-requires-clause-locked
+open_at-requires-clause-locked g c =
     may_call g.S.Scheme.accepts _ _ _ _ _ _ c.self.invariant c.in_ok-take_in.ensures.got
 
 pub end_call-requires-clause-called : goal.end_call-requires-clause-called

@@ -8,8 +8,8 @@ use Rattle.nw_shared_store.proofs.session.SharedSession.renew.Goals as goal
 pub returns-in_err-try_take-clause-refused : goal.returns-in_err-try_take-clause-refused
 returns-in_err-try_take-clause-refused g c = of_cause IsPassing refusals.Busy c.from_residual.result tt (search rules)
 
-pub run_at-present-requires-clause-held : goal.run_at-present-requires-clause-held
-run_at-present-requires-clause-held g c = has_value _ _ c.in_ok-try_take.ensures.got
+pub run_at-present-requires-clause-locked : goal.run_at-present-requires-clause-locked
+run_at-present-requires-clause-locked g c = has_value _ _ c.in_ok-try_take.ensures.got
 
 pub end_reading-requires-clause-same : goal.end_reading-requires-clause-same
 end_reading-requires-clause-same g c = may_free _ _ _ c.in_ok-try_take.ensures.got c.run_at-present.ensures.same

@@ -7,8 +7,8 @@ use Rattle.nw_shared_store.proofs.session.SharedSession.restart.Goals as goal
 pub returns-in_err-take_in-clause-refused : goal.returns-in_err-take_in-clause-refused
 returns-in_err-take_in-clause-refused g c = unseen_of c.from_residual.result (search rules)
 
-pub restart_at-requires-clause-held : goal.restart_at-requires-clause-held
-restart_at-requires-clause-held g c = session_has_value _ _ _ _ _ _ c.self.invariant c.in_ok-take_in.ensures.got
+pub restart_at-requires-clause-locked : goal.restart_at-requires-clause-locked
+restart_at-requires-clause-locked g c = session_has_value _ _ _ _ _ _ c.self.invariant c.in_ok-take_in.ensures.got
 
 pub returns-in-Err-clause-refused : goal.returns-in-Err-clause-refused
 returns-in-Err-clause-refused g c = subst IsUnseen (sym c.from.ensures) refl

@@ -11,8 +11,8 @@ returns-in_err-try_take g c = of_cause IsPassing refusals.Busy c.from_residual.r
 pub returns-in_err-done : goal.returns-in_err-done
 returns-in_err-done g c = of_cause IsPassing (refusals.NoStep causes.NoMemory) c.from_residual-in_err-done.result refl (search rules)
 
-pub compact_at-done-requires-clause-held : goal.compact_at-done-requires-clause-held
-compact_at-done-requires-clause-held g c = has_value _ _ c.in_ok-try_take.ensures.got
+pub compact_at-done-requires-clause-locked : goal.compact_at-done-requires-clause-locked
+compact_at-done-requires-clause-locked g c = has_value _ _ c.in_ok-try_take.ensures.got
 
 pub give_back-requires-clause-same : goal.give_back-requires-clause-same
 give_back-requires-clause-same g c = may_free _ _ _ c.in_ok-try_take.ensures.got c.compact_at-done.ensures.same

@@ -1,4 +1,5 @@
-use Rattle.std.proofs.Common.{◌≡◌, ◌∙◌, ◌+◌, ◌<◌, ◌∷◌, ℕ, List, add-one, ap, drop, drop-cons, get_or, length, refl, suc, sym, subst}
+use Rattle.std.proofs.Common.{◌≡◌, ◌∙◌, ◌+◌, ◌<◌, ◌∷◌, ℕ, List, add-one, ap, drop, drop-cons, get_or, length, refl, suc, sym, subst, arith}
+use Rattle.std.proofs.lemmas.Grind.{common_steps}
 use Rattle.std.proofs.lemmas.Bool.{true≢false}
 use Rattle.std.proofs.Math.ListN.{drop_of_length-le}
 use Rattle.nw_digest.specs.declared.digest.Digest.{Digest}
@@ -43,6 +44,13 @@ invariant_of-self g c =
     let now = c.loop-wanted.self-inside.unmet.keys in
     subst (λ u. HaveHolders u now) (sym c.loop-wanted.invariant.0)
     (left_last t c.self.inside.unmet.keys now (subst (AreLeft t c.self.inside.unmet.keys now) (drop_of_length-le c.as_slice-wanted-items.result.now c.loop-wanted-test.false) c.loop-wanted.invariant.1))
+
+pub returns-clause-count : goal.returns-clause-count
+returns-clause-count g c = (
+  c.unwant-missing.result.items,
+  subst (λ u. AreMissing u c.args.holder c.unwant-missing.result.items) (ap (λ s. s.lacking) c.self.view_is) c.unwant-missing.ensures.missing,
+  grind (arith, common_steps),
+)
 
 pub returns-clause-unmet : goal.returns-clause-unmet
 returns-clause-unmet g c =

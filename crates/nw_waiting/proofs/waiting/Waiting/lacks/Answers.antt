@@ -1,17 +1,5 @@
-use Rattle.std.proofs.Common.{◌∙◌, [], ap, sym, refl, arith}
-use Rattle.std.specs.Option.{option_copied}
-use Rattle.std.proofs.lemmas.Grind.{common_steps}
-use Rattle.nw_waiting.specs.Lists.{list_of}
-use Rattle.nw_waiting.proofs.Changes.{missing_of}
+use Rattle.std.proofs.Common.{refl}
 use Rattle.nw_waiting.proofs.waiting.Waiting.lacks.Goals as goal
 
-pub returns-in-None : goal.returns-in-None
-returns-in-None g c =
-    ([], missing_of (λ v. v.items) (λ v. v.items) c.self.inside.holders.entries c.self.inside.missing.entries c.self.invariant c.args.self.now c.self.view_is c.args.holder [] (ap (list_of (λ v. v.items)) (sym (ap option_copied c.in-None.is) ∙ c.get.ensures.value)), refl)
-
-pub returns-in-Some : goal.returns-in-Some
-returns-in-Some g c = (
-  c.in-Some.missing.now.items,
-  missing_of (λ v. v.items) (λ v. v.items) c.self.inside.holders.entries c.self.inside.missing.entries c.self.invariant c.args.self.now c.self.view_is c.args.holder c.in-Some.missing.now.items (ap (list_of (λ v. v.items)) (sym (ap option_copied c.in-Some.is) ∙ c.get.ensures.value)),
-  grind (arith, common_steps),
-)
+pub returns : goal.returns
+returns g c = (c.missing_of.result.now, c.missing_of.ensures, refl)

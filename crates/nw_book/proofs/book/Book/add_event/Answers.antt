@@ -6,7 +6,7 @@ use Rattle.nw_history.specs.Story.{Story, IsLegalStory, bounds_of, state_of}
 use Rattle.nw_book.specs.Turn.{IsInTurn, HasRoom}
 use Rattle.nw_book.proofs.Longer.{is_last, some_last}
 use Rattle.nw_book.proofs.IsBook.{legal_next}
-use Rattle.nw_book.proofs.book.Book.record.Goals as goal
+use Rattle.nw_book.proofs.book.Book.add_event.Goals as goal
 
 pub with_event-requires-clause-legal : goal.with_event-requires-clause-legal
 with_event-requires-clause-legal g c =

@@ -1,7 +1,7 @@
 use Rattle.std.proofs.Common.{◌+◌, ◌-◌, ◌++◌, length, refl, ap, ◌∙◌, arith}
 use Rattle.std.proofs.lemmas.Slice.{take-put_mid, drop-put_mid}
 use Rattle.nw_codec.proofs.Placed.{same_behind}
-use Rattle.nw_codec.proofs.encode.sink.FrontSink.put.Goals as goal
+use Rattle.nw_codec.proofs.encode.sink.FilledSink.put.Goals as goal
 
 pub returns-clause-text : goal.returns-clause-text
 returns-clause-text c before text held =

@@ -21,7 +21,7 @@ pub record Current : Type 0 where
   pub made : ℕ
 
 -- the invariant of the value
-pub record IsHeld (accepts : Meaning) (g : Current) : Type 0 where
+pub record IsLocked (accepts : Meaning) (g : Current) : Type 0 where
   -- the limits are in their ranges
   pub in_range : AreInRange g.history.limits
   -- the history is legal
@@ -42,7 +42,7 @@ pub record IsTaken (accepts : Meaning) (g n : Current) (id : ℕ) (under : Optio
   -- no session was made
   pub made : n.made ≡ g.made
   -- the value was in order
-  pub held : IsHeld accepts g
+  pub locked : IsLocked accepts g
 
 -- the session's next call takes no step after the history of the value g, for this cause, which is not its turn
 pub record IsUntaken (accepts : Meaning) (g : Current) (id : ℕ) (under : Option (List Member)) (why : NoStep) : Type 0 where
@@ -51,7 +51,7 @@ pub record IsUntaken (accepts : Meaning) (g : Current) (id : ℕ) (under : Optio
   -- the call is in turn
   pub in_turn : why ≢ causes.OutOfTurn
   -- the value was in order
-  pub held : IsHeld accepts g
+  pub locked : IsLocked accepts g
 
 -- one more session is made, with this number, in this run
 pub record IsEnrolled (accepts : Meaning) (g n : Current) (run id : ℕ) : Type 0 where
@@ -61,11 +61,11 @@ pub record IsEnrolled (accepts : Meaning) (g n : Current) (run id : ℕ) : Type 
   -- only the number of sessions changes
   pub grows : n ≡ record { run = g.run; history = g.history; made = g.made + 1 }
   -- the value was in order
-  pub held : IsHeld accepts g
+  pub locked : IsLocked accepts g
 
 -- the value has this history and this number of sessions
 abbrev pub IsFound : Meaning → Current → Story → ℕ → Type 0
-IsFound accepts g h made = (g.history ≡ h) × (g.made ≡ made) × IsHeld accepts g
+IsFound accepts g h made = (g.history ≡ h) × (g.made ≡ made) × IsLocked accepts g
 
 -- the value that begins the next run: the history is empty, and its base is the state after this one
 abbrev pub next_run : Current → Current
@@ -77,4 +77,4 @@ pub record IsEnded (accepts : Meaning) (g n : Current) (last : Story) (run : ℕ
   pub next : n ≡ next_run g
   pub run_is : run ≡ n.run
   -- the value was in order
-  pub held : IsHeld accepts g
+  pub locked : IsLocked accepts g

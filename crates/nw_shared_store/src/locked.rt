@@ -9,7 +9,7 @@ ghost use Rattle.nw_book.specs.Command.{call_of, committee_of};
 ghost use Rattle.nw_book.specs.Turn.{IsInTurn, next_number};
 ghost use Rattle.nw_history.specs.Story.{state_of};
 ghost use Rattle.nw_model.specs.Look.{AreLooks};
-ghost use Rattle.nw_shared_store.specs.Held.{IsEnded, IsEnrolled, IsFound, IsHeld, IsTaken, IsUntaken};
+ghost use Rattle.nw_shared_store.specs.Locked.{IsEnded, IsEnrolled, IsFound, IsLocked, IsTaken, IsUntaken};
 
 use nw_book::{Book, Command, Done, Front, NoStep, Ticket};
 use nw_digest::{Digest, NoMemory, Round};
@@ -21,16 +21,16 @@ use std::marker::Model;
 /// The value under the lock of a shared store. Contracts see the number of its run, the history of this run, and the number of sessions made
 /// so far.
 #[derive(Drop)]
-pub struct Held<S: Scheme> {
+pub struct Locked<S: Scheme> {
     book: Book<S>,
     run: u64,
     made: u16,
 }
 
-impl<S: Scheme> Model for Held<S> {
+impl<S: Scheme> Model for Locked<S> {
     ghost use Rattle.std.specs.Coded.{codes};
     ghost use Rattle.nw_model.specs.State.{coded_state};
-    ghost use Rattle.nw_shared_store.specs.Held.{Current, IsHeld};
+    ghost use Rattle.nw_shared_store.specs.Locked.{Current, IsLocked};
 
     ghost Value = { Current };
 
@@ -38,18 +38,18 @@ impl<S: Scheme> Model for Held<S> {
 
     ghost view = { λ h. record { run = h.run; history = h.book; made = h.made } };
 
-    ghost invariant = { λ h. IsHeld S.accepts (record { run = h.run; history = h.book; made = h.made }) };
+    ghost invariant = { λ h. IsLocked S.accepts (record { run = h.run; history = h.book; made = h.made }) };
 }
 
-impl<S: Scheme> Held<S> {
+impl<S: Scheme> Locked<S> {
     /// The value for a new store over the book.
-    pub(crate) fn over(book: Book<S>) -> Held<S>
+    pub(crate) fn over(book: Book<S>) -> Locked<S>
         requires in_range { AreInRange book.limits }
         requires legal { IsLegalStory S.accepts book }
         requires empty { book.events ≡ [] }
         ensures { result ≡ record { run = 0; history = book; made = 0 } }
     {
-        Held {
+        Locked {
             book,
             run: 0,
             made: 0,
@@ -59,7 +59,7 @@ impl<S: Scheme> Held<S> {
     /// The number of the run.
     pub(crate) fn run(&self) -> u64
         ensures run { result ≡ self.now.run }
-        ensures held { IsHeld S.accepts self.now }
+        ensures locked { IsLocked S.accepts self.now }
     {
         self.run
     }
@@ -135,7 +135,7 @@ impl<S: Scheme> Held<S> {
 
     /// What the state after the history has in the slot of this round and author.
     pub(crate) fn look(&self, round: Round, author: u16) -> Look
-        ensures held { IsHeld S.accepts self.now }
+        ensures locked { IsLocked S.accepts self.now }
         ensures look { IsLookAfter self.now.history (round, author) result }
     {
         self.book.look(round, author)
@@ -147,7 +147,7 @@ impl<S: Scheme> Held<S> {
         alloc: Global,
         round: Round,
     ) -> Result<Vec<(u16, Look)>, NoMemory>
-        ensures held { IsHeld S.accepts self.now }
+        ensures locked { IsLocked S.accepts self.now }
         ensures looks { IfOk result (λ looks. AreLooks (state_of self.now.history) round looks.items) }
     {
         self.book.look_round(alloc, round)
