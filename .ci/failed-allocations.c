@@ -3,8 +3,9 @@
    If FAIL_NTH is N, the Nth allocation fails. Allocations are counted from 1, in all threads together, from the start of this library.
    The dynamic linker's own allocations come before the start, and all those of main and of threads come after it. An allocation is a call
    of malloc, calloc, realloc, aligned_alloc, posix_memalign or memalign. After an allocation of FAIL_ALL bytes, which succeeds, all
-   allocations fail until one of FAIL_NONE bytes. FAIL_TELL is a file descriptor, to which the library writes single bytes: "l" when it
-   starts, "r" when it fails the Nth allocation, and "a" when all allocations begin to fail. */
+   allocations of this thread fail until one of FAIL_NONE bytes. Other threads are not affected, so their order makes no difference.
+   FAIL_TELL is a file descriptor, to which the library writes single bytes: "l" when it starts, "r" when it fails the Nth allocation, and
+   "a" when all allocations of a thread begin to fail. */
 #include <errno.h>
 #include <stdlib.h>
 #include <unistd.h>
@@ -14,7 +15,8 @@ enum { FAIL_ALL = 1000003, FAIL_NONE = 1000033 };
 void *__libc_malloc(size_t), *__libc_calloc(size_t, size_t), *__libc_realloc(void *, size_t), *__libc_memalign(size_t, size_t);
 
 static long nth, count;
-static int all, tell = -1;
+static int tell = -1;
+static _Thread_local int all;
 
 static void tell_of(const char *what)
 {
@@ -33,11 +35,12 @@ __attribute__((constructor)) static void start(void)
 static int is_refused(size_t size)
 {
 	if (size == FAIL_ALL || size == FAIL_NONE) {
-		if (!__atomic_exchange_n(&all, size == FAIL_ALL, __ATOMIC_SEQ_CST) && size == FAIL_ALL)
+		if (size == FAIL_ALL && !all)
 			tell_of("a");
+		all = size == FAIL_ALL;
 		return 0;
 	}
-	if (!__atomic_load_n(&all, __ATOMIC_SEQ_CST)) {
+	if (!all) {
 		long target = __atomic_load_n(&nth, __ATOMIC_SEQ_CST);
 		if (!target || __atomic_add_fetch(&count, 1, __ATOMIC_SEQ_CST) != target)
 			return 0;

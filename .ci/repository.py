@@ -12,7 +12,7 @@ AT_ONCE = min(os.cpu_count() or 1, 4)
 # The most seconds that one run of a program may take.
 SECONDS = 60
 SCRIPTS = "crates/nw/scripts"
-COUNTS = ".ci/counts"
+COUNTS, BROKEN = ".ci/counts", ".ci/broken"
 
 
 def content(path):
@@ -91,20 +91,26 @@ def rlib(crate):
     return f"{ROOT}/crates/{crate}/out/rlib"
 
 
+@functools.cache
+def kit():
+    """The folder of the toolchain."""
+    documents = subprocess.run(["rt", "doc"], stdin=subprocess.DEVNULL, stdout=subprocess.PIPE, check=True, text=True).stdout
+    return os.path.dirname(documents.split()[0])
+
+
 def rattle(command, crate, *more):
     """The words of a command of the compiler for the crate, with the libraries that `rt ci` or `rt lib` built. The command keeps its proofs
     for the next one."""
-    documents = subprocess.run(["rt", "doc"], stdin=subprocess.DEVNULL, stdout=subprocess.PIPE, check=True, text=True).stdout
-    kit, libraries = os.path.dirname(documents.split()[0]), below(crate)
-    given = {name: f"{kit}/rlibs/{name}.rlib" for name in ("std", *uses()[crate]) if name not in libraries}
+    libraries = below(crate)
+    given = {name: f"{kit()}/rlibs/{name}.rlib" for name in ("std", *uses()[crate]) if name not in libraries}
     given |= {name: f"{rlib(name)}/{name}.rlib" for name in uses()[crate] if name in libraries}
     kind = ["--crate-type", "staticlib"] if is_static(crate) else []
     words = ["--crate-name", crate, "src/lib.rt", *kind, "--incremental", f"{ROOT}/crates/{crate}/out/proved"]
     words += [word for name, path in given.items() for word in ("--extern", f"{name}={path}")]
-    words += [word for folder in (f"{kit}/rlibs", *map(rlib, libraries)) for word in ("-L", f"dependency={folder}")]
-    words += ["--antt-project", f"{kit}/rattle/logic/antt-project.json", "--logic-built", f"{kit}/logic_built"]
-    toolchain = ["--toolchain", f"{kit}/toolchain"] if command == "build" else []
-    return [f"{kit}/bin/rattle", command, *words, *toolchain, *more]
+    words += [word for folder in (f"{kit()}/rlibs", *map(rlib, libraries)) for word in ("-L", f"dependency={folder}")]
+    words += ["--antt-project", f"{kit()}/rattle/logic/antt-project.json", "--logic-built", f"{kit()}/logic_built"]
+    toolchain = ["--toolchain", f"{kit()}/toolchain"] if command == "build" else []
+    return [f"{kit()}/bin/rattle", command, *words, *toolchain, *more]
 
 
 def program(crate):

@@ -72,7 +72,7 @@ def files(pattern):
 
 @functools.cache
 def names_of(crate):
-    """The names of a crate below crates, or of the Rust crate, which is given by its path."""
+    """The names of a crate below crates, or of a Rust crate, which is given by its path."""
     folder = crate if "/" in crate else f"crates/{crate}"
     return Names(folder)
 
@@ -80,7 +80,7 @@ def names_of(crate):
 @functools.cache
 def words():
     """All words in sources, specifications and proofs, in crates.txt and docs/picture.script, and in the names of files in their folders."""
-    crates, bindings = ("src/**/*.rt", "specs/**/*.antt", "proofs/**/*.antt"), ("c/*.[ch]", "rust/src/**/*.rs")
+    crates, bindings = ("src/**/*.rt", "specs/**/*.antt", "proofs/**/*.antt"), ("c/*.[ch]", "c/rename", "rust/src/**/*.rs", "rust/validator/src/*.rs")
     sources = [*(f"crates/*/{it}" for it in crates), *(f"bindings/{it}" for it in bindings), "crates.txt", "docs/picture.script"]
     texts = [content(path) for source in sources for path in paths(source)] + paths("crates/*/[mpsw]*/**/*") + paths("bindings/*/*")
     return {word for text in texts for word in re.findall(NAME, text)}

@@ -1,16 +1,13 @@
 #!/usr/bin/env python3
 """A reference implementation of Ed25519's verification, and the test vectors that it answers.
 
-    bench/ed25519.py DIR             writes DIR/stdin (lines `key message signature` in hex) and DIR/stdout (`yes` or `no` for each)
-    bench/ed25519.py speed PROGRAM   times the program and OpenSSL on the same 10,000 signatures, by processor time
+    bench/ed25519.py DIR    writes DIR/stdin (lines `key message signature` in hex) and DIR/stdout (`yes` or `no` for each)
 
 python3-cryptography, which is OpenSSL, makes the keys and signatures; this file computes the answers. It uses Python's integers and other
 formulas than the program: sums of points are the curve's law for x and y, with divisions, and multiples start with the lowest bit.
 """
 import hashlib
-import os
 import random
-import subprocess
 import sys
 
 P = 2**255 - 19
@@ -206,26 +203,5 @@ def main(where):
     print("%d vectors: %d yes, %d no" % (sum(counts), counts[1], counts[0]))
 
 
-def speed(program):
-    from cryptography.hazmat.primitives.asymmetric.ed25519 import Ed25519PublicKey
-
-    draw = random.Random(25519)
-    claims = [signed(hashlib.sha256(b"%d" % (i % 100)).digest(), draw.randbytes(44)) for i in range(10_000)]
-    lines = "".join("%s %s %s\n" % (k.hex(), m.hex(), s.hex()) for k, m, s in claims).encode()
-    begin = os.times().children_user
-    answers = subprocess.run([program], input=lines, stdout=subprocess.PIPE, check=True).stdout
-    ours = os.times().children_user - begin
-    assert answers == b"yes\n" * len(claims)
-    keys = {k: Ed25519PublicKey.from_public_bytes(k) for k, _, _ in claims}
-    begin = os.times().user
-    for k, m, s in claims:
-        keys[k].verify(s, m)
-    theirs = os.times().user - begin
-    print("%d signatures: %.1f us each, OpenSSL %.1f us, %.2f times" % (len(claims), ours * 100, theirs * 100, ours / theirs))
-
-
 if __name__ == "__main__":
-    if sys.argv[1] == "speed":
-        speed(sys.argv[2])
-    else:
-        main(sys.argv[1])
+    main(sys.argv[1])

@@ -3,9 +3,9 @@
 
     bench/signatures.py PROGRAM..
 
-Each PROGRAM is an executable of nw_verify. It needs a C compiler and the Debian packages libsodium-dev, libssl-dev and python3-cryptography.
+Each PROGRAM is an executable of test_ed25519. It needs a C compiler and the Debian packages libsodium-dev, libssl-dev and python3-cryptography.
 The claims are 5,000 signatures of 44 bytes by 50 keys. Each number is the median of 7 turns, in microseconds a signature. The time of
-nw_verify is without its reading: the script subtracts the time of the same lines with an S above the order, which are refused before any
+test_ed25519 is without its reading: the script subtracts the time of the same lines with an S above the order, which are refused before any
 computation with points. It prepares a key that two lines in a row have, so it gets the claims by key and mixed.
 """
 import hashlib

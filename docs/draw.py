@@ -4,8 +4,9 @@
     docs/draw.py [PROGRAM] >docs/picture.svg
 
 PROGRAM is nw. By default it is crates/nw/out/nw, which `rt run` in crates/nw builds. It plays the script, and then questions: `causal` of
-each block, `missing`, `status`, and `walk` of the ticket that the script opened last. The picture shows the answers to these questions.
-docs/FORMATS.md explains it, and .ci/scripts compares it with docs/picture.svg.
+each block, `status`, and `walk` of the ticket that the script opened last. The picture shows the answers to these questions, and each state
+in the colour that it has in bindings/rust/examples/explorer/page.html. docs/FORMATS.md explains it, and .ci/scripts compares it with
+docs/picture.svg.
 """
 import re
 import subprocess
@@ -18,6 +19,7 @@ PROGRAM = DOCS.parent / "crates/nw/out/nw"
 Block = namedtuple("Block", "name author round parents state has_vote is_listed")
 # The state of a stored block by the answer to its causal read.
 STORED = {"causal": "complete", "incomplete": "certified", "uncertified": "stored"}
+MARKED = "certified", "complete", "absent"  # the states with a mark
 
 LEFT, TOP, RIGHT = 104, 48, 28              # the margins of the boxes
 BOX, BOX_HEIGHT, OUTLINE = 78, 26, 4        # a box, and the distance to its outline
@@ -26,44 +28,40 @@ SAMPLE, SAMPLE_HEIGHT = 26, 13              # a box of the legend
 LEGEND_TOP, LEGEND_STEP, LEGEND_HEIGHT = 14, 17, 84     # with its margins, the legend is a fifth of the picture
 # The columns of the legend: their left edges, and the styles with their meanings.
 LEGEND = {
-    24: (("stored", "stored"), ("certified", "stored and certified"), ("complete", "complete"), ("collected", "collected")),
-    208: (("missing", "missing parent"), ("absent", "not stored"), ("vote", "has the store's vote"), ("twins", "equivocation")),
-    392: (("listed", "listed by the walk"), ("first", "first reference in the walk"), ("walked", "other reference in the walk")),
-    623: (("met", "satisfied reference"), ("unmet", "unsatisfied reference"), ("note", "Arrows point to parents.")),
+    24: (("stored", "stored"), ("certified", "certified"), ("complete", "complete"), ("collected", "collected")),
+    174: (("absent", "not stored"), ("vote", "has the store's vote"), ("twins", "equivocation")),
+    375: (("listed", "listed by the walk"), ("first", "first reference in the walk"), ("walked", "other reference in the walk")),
+    615: (("met", "satisfied reference"), ("unmet", "unsatisfied reference"), ("note", "Arrows point to parents.")),
 }
 ARROWS = "met", "unmet", "walked", "first"  # later ones are drawn over earlier ones
 HEAD = """<style>
-text{font:12px 'DejaVu Sans Mono',Menlo,Consolas,monospace;fill:#222}
+text{font:12px 'DejaVu Sans Mono',Menlo,Consolas,monospace;fill:#1c2430}
 .round{text-anchor:middle}
 .legend{font-size:11px}
-.row{fill:#f2f2f2}
-.stored,.certified,.complete,.collected,.missing,.absent{fill:#fff;stroke:#444}
-.certified{fill:#cfe2ff}
-.complete{fill:#c8edcc}
-.collected{fill:#d9d9d9;stroke:#999}
-.missing{fill:#ffe3b0;stroke-dasharray:4 3}
-.absent{stroke:#aaa;stroke-dasharray:1 3}
-.listed{fill:none;stroke:#c2185b;stroke-width:2}
-.first{stroke:#c2185b;stroke-width:1.5;marker-end:url(#dark)}
-.walked{stroke:#eec1d1;marker-end:url(#light)}
-.met,.unmet{stroke:#ccc;marker-end:url(#grey)}
+.row{fill:#f4f5f7}
+.stored,.certified,.complete,.absent{fill:#fff;stroke:#2563a8;stroke-width:1.5}
+.certified{fill:#b9cde3}
+.complete{fill:#2563a8}
+.collected{fill:#b9c1cd}
+.absent{stroke:#566173;stroke-dasharray:4 3}
+.on-complete{fill:#fff}
+.listed{fill:none;stroke:#b45309;stroke-width:2}
+.first{stroke:#b45309;stroke-width:1.5;marker-end:url(#dark)}
+.walked{stroke:#ecd0b5;marker-end:url(#light)}
+.met,.unmet{stroke:#c5cbd5;marker-end:url(#grey)}
 .unmet{stroke-dasharray:5 4}
-line:hover{stroke:#222;stroke-width:3}
-.twins{stroke:#e65100;stroke-width:4}
-.garbage{stroke:#b00020;stroke-width:2;stroke-dasharray:8 4}
-.ink{fill:none;stroke:#222;stroke-width:2}
+line:hover{stroke:#1c2430;stroke-width:3}
+.twins{stroke:#b4232f;stroke-width:4}
+.garbage{stroke:#566173;stroke-width:2;stroke-dasharray:2 4}
 </style>
 <defs>
-<marker id="dark" viewBox="0 -4 8 8" refX="8" markerWidth="8" markerHeight="8" markerUnits="userSpaceOnUse" orient="auto"><path fill="#c2185b" d="M0 -3L8 0L0 3z"/></marker>
-<marker id="light" viewBox="0 -4 8 8" refX="8" markerWidth="8" markerHeight="8" markerUnits="userSpaceOnUse" orient="auto"><path fill="#e29bb6" d="M0 -3L8 0L0 3z"/></marker>
-<marker id="grey" viewBox="0 -4 8 8" refX="8" markerWidth="8" markerHeight="8" markerUnits="userSpaceOnUse" orient="auto"><path fill="#bbb" d="M0 -3L8 0L0 3z"/></marker>
-<circle id="stored" class="ink" r="4"/>
-<circle id="certified" fill="#222" r="5"/>
-<path id="complete" class="ink" d="M-5 0l4 4l6 -9"/>
-<path id="collected" class="ink" d="M-4 -4l8 8m0 -8l-8 8"/>
-<path id="missing" class="ink" d="M0 -6v7m0 3v2"/>
-<path id="absent" class="ink" d="M-4 0h8"/>
-<path id="vote" fill="#222" d="M0 0h-9l9 9z"/>
+<marker id="dark" viewBox="0 -4 8 8" refX="8" markerWidth="8" markerHeight="8" markerUnits="userSpaceOnUse" orient="auto"><path fill="#b45309" d="M0 -3L8 0L0 3z"/></marker>
+<marker id="light" viewBox="0 -4 8 8" refX="8" markerWidth="8" markerHeight="8" markerUnits="userSpaceOnUse" orient="auto"><path fill="#dfb48c" d="M0 -3L8 0L0 3z"/></marker>
+<marker id="grey" viewBox="0 -4 8 8" refX="8" markerWidth="8" markerHeight="8" markerUnits="userSpaceOnUse" orient="auto"><path fill="#b1b9c5" d="M0 -3L8 0L0 3z"/></marker>
+<circle id="certified" fill="#2563a8" r="5"/>
+<path id="complete" fill="none" stroke="#fff" stroke-width="2" d="M-5 0l4 4l6 -9"/>
+<text id="absent" class="round" y="4">?</text>
+<path id="vote" fill="#1c2430" d="M0 0h-9l9 9z"/>
 </defs>
 <rect width="100%" height="100%" fill="#fff"/>"""
 
@@ -73,14 +71,13 @@ def play(program):
     script = (DOCS / "picture.script").read_text()
     lines = re.findall(r"^block (\w+) (\d+) (\d+) (\S+)", script, re.M)
     ticket = re.findall(r"^open (\w+)", script, re.M)[-1]
-    questions = [*(f"causal {name}" for name, *_ in lines), "missing 65535", "status", f"walk {ticket}"]
+    questions = [*(f"causal {name}" for name, *_ in lines), "status", f"walk {ticket}"]
     printed = subprocess.run([program], input="\n".join([script, *questions]), stdout=subprocess.PIPE, check=True, text=True).stdout
-    *reads, missing, status, walk = (line.split(" ") for line in printed.splitlines()[-len(questions):])
+    *reads, status, walk = (line.split(" ") for line in printed.splitlines()[-len(questions):])
     answers, garbage_round = {name: answer for name, answer, *_ in reads}, int(status[1].removeprefix("g="))
-    missed, voted = {word.rpartition(".")[2] for word in missing}, re.findall(r"^(\w+) stored vote$", printed, re.M)
-    blocks = {}
+    voted, blocks = re.findall(r"^(\w+) stored vote$", printed, re.M), {}
     for name, author, round_, parents in lines:
-        otherwise = "collected" if int(round_) < garbage_round else "missing" if name in missed else "absent"
+        otherwise = "collected" if int(round_) < garbage_round else "absent"
         state, has_vote = STORED.get(answers[name], otherwise), name in voted and answers[name] in STORED
         parents = [] if parents == "-" else parents.split(",")
         blocks[name] = Block(name, int(author), int(round_), parents, state, has_vote, name in walk[2:])
@@ -161,10 +158,11 @@ def draw_block(grid, block):
     if block.is_listed:
         yield rect("listed", x - OUTLINE, y - OUTLINE, BOX + 2 * OUTLINE, BOX_HEIGHT + 2 * OUTLINE, 8)
     yield rect(block.state, x, y, BOX, BOX_HEIGHT)
-    yield f'<use href="#{block.state}" x="{x + 15}" y="{y + BOX_HEIGHT // 2}"/>'
+    if block.state in MARKED:
+        yield f'<use href="#{block.state}" x="{x + 15}" y="{y + BOX_HEIGHT // 2}"/>'
     if block.has_vote:
         yield f'<use href="#vote" x="{x + BOX}" y="{y}"/>'
-    yield text("name", x + 27, y + BOX_HEIGHT // 2 + 4, block.name)
+    yield text(f"on-{block.state}", x + 27, y + BOX_HEIGHT // 2 + 4, block.name)
 
 
 def draw_legend(top):
@@ -180,7 +178,7 @@ def draw_legend(top):
                 yield rect("stored" if style == "vote" else style, x, y, SAMPLE, SAMPLE_HEIGHT, 4)
             if style == "vote":
                 yield f'<use href="#vote" x="{x + SAMPLE}" y="{y}"/>'
-            elif style in (*STORED.values(), "collected", "missing", "absent"):
+            elif style in MARKED:
                 yield f'<use href="#{style}" transform="translate({half} {middle})scale(.8)"/>'
             yield text("legend", x if style == "note" else x + SAMPLE + 8, y + 10, words)
 

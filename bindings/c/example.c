@@ -116,7 +116,7 @@ int main(void)
 
 	tell_reply("status", nw_session_status(&session, &answer), &answer);
 	tell("counts", nw_answer_status(&answer, &status));
-	printf("  garbage round %llu, %llu blocks\n", (unsigned long long)status.floor, (unsigned long long)status.blocks);
+	printf("  garbage round %llu, %llu blocks\n", (unsigned long long)status.garbage_round, (unsigned long long)status.blocks);
 	tell("events", nw_answer_events(&answer, &events));
 	printf("  %zu explain the answer\n", events);
 	tell("restart", nw_session_restart(&session, &answer));

@@ -143,7 +143,8 @@ static int32_t look(nw_session *session)
 	printf(" %zu", count);
 	for (size_t i = 0; code == NW_DONE && i < count; i++) {
 		nw_look *at = &looks[i].look;
-		printf(" %u %llu %d%d", (unsigned)looks[i].author, (unsigned long long)at->floor, at->stands, at->complete);
+		printf(" %u %llu %llu %zu %d%d", (unsigned)looks[i].author, (unsigned long long)at->garbage_round,
+		       (unsigned long long)at->newest_round, at->missing, at->stands, at->complete);
 		print_bytes("first", at->first.bytes, at->has_first ? 32 : 0);
 		print_bytes("certified", at->certified.bytes, at->has_certified ? 32 : 0);
 	}

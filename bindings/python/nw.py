@@ -16,15 +16,19 @@ It is a thin ctypes layer over the C interface (bindings/c/nw.h). For a validato
 Keys, digests and messages are bytes-like objects or strings of hex digits; a subject has its digest in hex. A wrong length or a number out of
 range raises ValueError. A refused call raises NwError with the name of its code in nw.h.
 
-A Store has one session. Threads may share it: calls never overlap, because each call of the library holds the interpreter's lock.
+A Store has one session. Threads may share it: calls never overlap, because each call of the library holds the interpreter's lock. So this
+module does not load in an interpreter without that lock. Do not use it in the child of a fork (`os.fork`, `multiprocessing` with "fork").
 """
 import ctypes
 import os
 import re
+import sys
 from ctypes import Structure, byref, c_bool, c_int32, c_size_t, c_uint8, c_uint16, c_uint32, c_uint64, c_void_p
 
 HERE = os.path.dirname(os.path.abspath(__file__))
 PATH = os.environ.get("NW_LIBRARY", os.path.normpath(f"{HERE}/../out/libnw.so"))
+if not getattr(sys, "_is_gil_enabled", lambda: True)():
+    raise ImportError("nw.py needs the lock of the interpreter: calls on one handle of the library must not overlap")
 try:
     # CDLL releases the interpreter's lock in each call. Then two threads can use one handle at once, which the library does not allow.
     LIBRARY = ctypes.PyDLL(PATH)
@@ -52,11 +56,11 @@ Member = record("Member", key=c_uint8 * 32, weight=c_uint32)
 Limits = record("Limits", blocks=c_uint32, events=c_uint32, window=c_uint32, sessions=c_uint32)
 Subject = record("Subject", digest=Digest, round=c_uint64, author=c_uint16)
 Told = record("Told", kind=c_int32, number=c_uint64, digest=Digest)
-Look = record("Look", floor=c_uint64, first=Digest, certified=Digest, has_first=c_bool, has_certified=c_bool, stands=c_bool, complete=c_bool)
+Look = record("Look", garbage_round=c_uint64, newest_round=c_uint64, missing=c_size_t, first=Digest, certified=Digest, has_first=c_bool, has_certified=c_bool, stands=c_bool, complete=c_bool)
 AuthorLook = record("AuthorLook", author=c_uint16, look=Look)
 Event = record("Event", session=c_uint16, number=c_uint32, call=Told, reply=Told)
 Message = record("Message", kind=c_int32, signer=c_uint16, subject=Subject)
-Status = record("Status", floor=c_uint64, blocks=c_uint64, certificates=c_uint64, complete=c_uint64, wanted=c_uint64)
+Status = record("Status", garbage_round=c_uint64, blocks=c_uint64, certificates=c_uint64, complete=c_uint64, wanted=c_uint64)
 
 
 class NwError(Exception):
@@ -147,7 +151,8 @@ class Block(Handle):
 def fields(look):
     """The fields of a look, as a dictionary. A digest that is not there is None."""
     digests = {name: bytes(getattr(look, name).bytes).hex() if getattr(look, f"has_{name}") else None for name in ("first", "certified")}
-    return {"floor": look.floor, **digests, "stands": look.stands, "complete": look.complete}
+    numbers = {name: getattr(look, name) for name in ("garbage_round", "newest_round", "missing")}
+    return {**numbers, **digests, "stands": look.stands, "complete": look.complete}
 
 
 class Store(Handle):

@@ -1,37 +1,49 @@
 //! Links the static library of the store.
 //!
 //! This is the one that the package ships in `prebuilt`. If `NW_LIB_DIR` is set, it is the one in
-//! that folder, and cargo prints a warning that names it.
+//! that folder, and cargo prints a warning that names it. Cargo also prints a warning if the shipped
+//! library does not have the hash of its record.
 
+#[path = "build/sha256.rs"]
+mod sha256;
+
+use sha256::sha256;
 use std::env;
 use std::fs;
 use std::path::{Path, PathBuf};
 use std::process;
 
 /// The targets of the shipped libraries, and the folder of each in this package. One library serves
-/// two targets, because it calls only the `mem*` functions of libc.
-const SHIPPED: [(&str, &str); 4] = [
+/// several targets, because it calls only the `mem*` functions of libc.
+const SHIPPED: [(&str, &str); 8] = [
     ("x86_64-unknown-linux-gnu", "prebuilt/x86_64-linux"),
     ("x86_64-unknown-linux-musl", "prebuilt/x86_64-linux"),
     ("aarch64-unknown-linux-gnu", "prebuilt/aarch64-linux"),
     ("aarch64-unknown-linux-musl", "prebuilt/aarch64-linux"),
+    ("aarch64-apple-darwin", "prebuilt/aarch64-macos"),
+    ("x86_64-apple-darwin", "prebuilt/x86_64-macos"),
+    ("x86_64-pc-windows-gnu", "prebuilt/x86_64-windows"),
+    ("riscv64gc-unknown-linux-gnu", "prebuilt/riscv64-linux"),
 ];
 /// The names that a library may have in the folder `NW_LIB_DIR`: as `.ci/library` leaves it, and as the
 /// package ships it.
 const NAMES: [&str; 2] = ["libnw_c.a", "libnw.a"];
 /// How to get another library.
 const BUILD_ONE: &str = "Or set NW_LIB_DIR to the absolute path of a folder with libnw_c.a for \
-     your target: in a clone of the repository, `.ci/library` leaves one in crates/nw_c/out for \
-     x86-64, and one in crates/nw_c/out/aarch64.";
+     your target. In a clone of the repository, `.ci/library` leaves them in crates/nw_c/out. For \
+     a target that is not among them, add it to .ci/archives.py, and run \
+     `bindings/rust/prebuilt/elsewhere`.";
 
-/// A library, and what the crate says of it.
+/// A library: its file, where it comes from, and the SHA-256 in its record if it has one.
 struct Library {
     path: PathBuf,
-    description: String,
+    origin: &'static str,
+    recorded: Option<String>,
 }
 
 fn main() {
     println!("cargo::rerun-if-changed=build.rs");
+    println!("cargo::rerun-if-changed=build/sha256.rs");
     println!("cargo::rerun-if-env-changed=NW_LIB_DIR");
     println!("cargo::rerun-if-env-changed=DOCS_RS");
     // Documents need no library, so a machine that only builds documents may have any target.
@@ -43,12 +55,9 @@ fn main() {
         Some(folder) => chosen(Path::new(&folder)),
         None => shipped(),
     };
-    match library {
-        Ok(library) => link(&library),
-        Err(what_to_do) => {
-            eprintln!("{what_to_do}");
-            process::exit(1);
-        }
+    if let Err(what_to_do) = library.and_then(link) {
+        eprintln!("{what_to_do}");
+        process::exit(1);
     }
 }
 
@@ -69,7 +78,8 @@ fn chosen(folder: &Path) -> Result<Library, String> {
     );
     Ok(Library {
         path: folder.join(name),
-        description: format!("NW_LIB_DIR {name}"),
+        origin: "NW_LIB_DIR",
+        recorded: None,
     })
 }
 
@@ -98,26 +108,38 @@ fn shipped() -> Result<Library, String> {
     let mut hashes = record
         .lines()
         .filter_map(|line| line.strip_prefix("archive "));
-    let hash = hashes
+    let recorded = hashes
         .next()
         .filter(|_| path.is_file())
         .ok_or_else(missing)?;
     Ok(Library {
         path,
-        description: format!("shipped libnw.a sha256:{hash}"),
+        origin: "shipped",
+        recorded: Some(recorded.into()),
     })
 }
 
-/// Links the library into the crate. The crate gets its description, which has no path.
-fn link(library: &Library) {
-    let path = library.path.canonicalize();
-    let path = path.unwrap_or_else(|_| library.path.clone());
+/// Links the library into the crate. The crate gets its origin, its name and its SHA-256, and no
+/// path.
+fn link(library: Library) -> Result<(), String> {
+    let path = library.path.canonicalize().unwrap_or(library.path);
+    let content = fs::read(&path).map_err(|why| format!("{}: {why}", path.display()))?;
+    let (hash, mut origin) = (sha256(&content), library.origin);
+    if let Some(recorded) = library.recorded.filter(|it| *it != hash) {
+        origin = "CHANGED";
+        println!(
+            "cargo::warning=THE LIBRARY IS NOT AS SHIPPED: {} has the SHA-256 {hash}, and its \
+             record has {recorded}",
+            path.display()
+        );
+    }
     let folder = path.parent().unwrap_or(Path::new("."));
-    let stem = path.file_stem().unwrap_or_default().to_string_lossy();
-    let name = stem.strip_prefix("lib").unwrap_or(&stem);
+    let file = path.file_name().unwrap_or_default().to_string_lossy();
+    let name = file.trim_start_matches("lib").trim_end_matches(".a");
     println!("cargo::rerun-if-changed={}", path.display());
     println!("cargo::rustc-link-search=native={}", folder.display());
     println!("cargo::rustc-link-lib=static={name}");
-    println!("cargo::rustc-env=NW_ARCHIVE={}", library.description);
+    println!("cargo::rustc-env=NW_ARCHIVE={origin} {file} sha256:{hash}");
     println!("cargo::metadata=archive={}", path.display());
+    Ok(())
 }

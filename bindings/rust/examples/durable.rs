@@ -5,28 +5,27 @@
 //! cargo run --release --example durable -- forget       deletes the log after each stop: some slots get two votes
 //! cargo run --release --example durable -- late-sync    sends each vote before it syncs: the same
 //! cargo run --release --example durable -- old-replay   syncs in time, but not what a replay read: the same
+//! cargo run --release --example durable -- one-copy     keeps one copy of the log, whose last record changes: the same
+//! cargo run --release --example durable -- old-copies   both copies of the log are replaced by older ones: the same
 //! ```
 //!
-//! docs/EMBEDDING.md (After a crash) has the recipe, and why it is enough. `log/mod.rs` is the log, and `flow/mod.rs` says when to vote.
+//! docs/EMBEDDING.md (After a crash) has the recipe, and why it is enough. The log and the flow are those of `narwhal_validator`.
 //! `supervisor/mod.rs` stops the validator.
 //!
 //! Half of the stops are kills. The others are power failures: of what the validator did not sync, the disk keeps a part, zeros or garbage.
-//! The library `tests/lost_pages.c` stands for that disk. Without a C compiler, all stops are kills.
+//! The library `tests/lost_pages.c` stands for that disk. Without a C compiler, all stops are kills. After half of the stops, one copy of the
+//! log changes, is lost, or is replaced by an older one.
 //!
 //! Each author makes two blocks for each round, and the messages come in another order after each stop. So a vote that the log lost soon
 //! leads to a vote for the other block.
 
-mod flow;
 #[path = "../tests/lab/mod.rs"]
 mod lab;
-mod log;
 mod supervisor;
 
-use flow::Flow;
 use lab::Com;
-use log::{Log, Opened};
-use narwhal_store::{CertifyReply, Checked, CollectReply, Committee, Digest, Limits, Message};
-use narwhal_store::{Session, Store, Subject, WriteReply};
+use narwhal_store::{Committee, Digest, Limits, Peek, Store, Subject};
+use narwhal_validator::{Flow, Log, Opened};
 use std::error::Error;
 use std::hash::{BuildHasher, RandomState};
 use std::path::Path;
@@ -42,9 +41,11 @@ fn main() -> Result<()> {
     let arguments: Vec<String> = env::args().skip(1).collect();
     match &arguments.iter().map(String::as_str).collect::<Vec<_>>()[..] {
         [] => supervise("right", &messages()),
-        [mode @ ("forget" | "late-sync" | "old-replay")] => supervise(mode, &messages()),
+        [mode @ ("forget" | "late-sync" | "old-replay" | "one-copy" | "old-copies")] => {
+            supervise(mode, &messages())
+        }
         ["validator", log, mode] => validator(Path::new(log), mode),
-        _ => Err("give no argument, forget, late-sync or old-replay".into()),
+        _ => Err("give no argument, or a mode of those above".into()),
     }
 }
 
@@ -91,21 +92,25 @@ fn validator(path: &Path, mode: &str) -> Result<()> {
     let messages = read(&bytes);
     let mut limits = Limits::MAX;
     limits.window = 32; // A replay without the collections is refused as `TooFar`.
-    let Opened { log, records, cut } = match mode {
-        "old-replay" if path.exists() => Log::open_without_sync(path)?,
-        _ => Log::open(path)?,
+    let second = path.with_extension(if mode == "one-copy" { "" } else { "copy" });
+    let opened = match mode {
+        "old-replay" if path.exists() => Log::open_without_sync([path, &second])?,
+        _ => Log::open([path, &second])?,
     };
+    let is_some = |counts: [usize; 2]| counts != [0; 2];
+    println!(
+        "opened {} {}",
+        is_some(opened.cut),
+        is_some(opened.repaired)
+    );
+    let Opened { log, records, .. } = opened;
     let store = Store::new(&committee, limits)?;
     let mut validator = Validator {
-        session: store.session()?,
-        store,
+        flow: Flow::over(&store, store.session()?),
         log,
         is_late: mode == "late-sync",
         committee,
     };
-    if cut > 0 {
-        println!("cut");
-    }
     for record in &records {
         // The second time that a vote is sent does no harm.
         let due = validator.call(record)?;
@@ -117,7 +122,7 @@ fn validator(path: &Path, mode: &str) -> Result<()> {
     order.sort_by_cached_key(late); // So two blocks of one round and author come in any order.
     for (_, message) in order {
         validator.take(message)?;
-        for subject in validator.flow().absent()? {
+        for subject in validator.flow.absent()? {
             validator.take(fetched(&messages, &subject)?)?;
         }
     }
@@ -136,28 +141,23 @@ fn fetched<'a>(messages: &[&'a [u8]], subject: &Subject) -> Result<&'a [u8]> {
 
 struct Validator {
     committee: Committee,
-    store: Store,
-    session: Session,
+    flow: Flow,
     log: Log,
     /// Whether it sends before it syncs, which is wrong.
     is_late: bool,
 }
 
 impl Validator {
-    fn flow(&mut self) -> Flow<'_> {
-        Flow::over(&self.store, &mut self.session)
-    }
-
     /// Takes a message of the network: peek, drop, check, write, log, sync, send.
     fn take(&mut self, message: &[u8]) -> Result<()> {
-        if !self.flow().wants(message) {
+        if !self.flow.wants(message) {
             return Ok(());
         }
         let voted = self.make(message)?;
         // A block with all its parents shows how far the others are.
         let newest = voted.iter().map(|subject| subject.round).max().unwrap_or(0);
         let garbage_round = (newest / 5 * 5).saturating_sub(15);
-        if garbage_round > self.session.look(0, 0).garbage_round {
+        if garbage_round > self.flow.session().look(0, 0).garbage_round {
             self.make(&garbage_round.to_be_bytes())?;
         }
         Ok(())
@@ -168,11 +168,18 @@ impl Validator {
         let Some(due) = self.call(record)? else {
             return Ok(Vec::new());
         };
-        self.log.append(record)?;
         if self.is_late {
             due.iter().for_each(send);
         }
-        self.log.sync()?; // The disk has the call before the vote is sent.
+        // The disk has the call before the vote is sent.
+        if let Ok(round) = record.try_into() {
+            let round = u64::from_be_bytes(round);
+            let is_kept = |message: &[u8]| Peek::of(message).map(|of| of.round()) >= Some(round);
+            self.log.cut(record, is_kept)?;
+        } else {
+            self.log.append(&[record])?;
+            self.log.sync()?;
+        }
         if !self.is_late {
             due.iter().for_each(send);
         }
@@ -182,28 +189,12 @@ impl Validator {
     /// Makes the call of a record: a message, or a round to collect. Returns the subjects to vote for if the store changed.
     fn call(&mut self, record: &[u8]) -> Result<Option<Vec<Subject>>> {
         if let Ok(round) = record.try_into() {
-            let round = u64::from_be_bytes(round);
-            return Ok(match self.session.collect(round)?.into_reply() {
-                CollectReply::Raised { .. } => Some(self.flow().collected(round)?),
-                CollectReply::NotHigher { .. } => None,
-            });
+            return Ok(self.flow.collect(u64::from_be_bytes(round))?);
         }
-        let Ok(checked) = Message::check(&self.committee, record) else {
+        let Ok(checked) = self.committee.check(record) else {
             return Ok(None); // The network has bad messages too.
         };
-        Ok(match checked {
-            Checked::Block(block) => match *self.session.write(&block)?.reply() {
-                WriteReply::Stored { .. } => Some(self.flow().stored(&block.subject())?),
-                _ => None,
-            },
-            Checked::Certificate(certificate) => {
-                match self.session.certify(&certificate)?.into_reply() {
-                    CertifyReply::Certified => Some(self.flow().certified(&certificate.subject())?),
-                    _ => None,
-                }
-            }
-            Checked::Vote(_) => None,
-        })
+        Ok(self.flow.call(&checked)?)
     }
 }
 

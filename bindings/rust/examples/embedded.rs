@@ -10,7 +10,7 @@
 //! It needs python3 with the package `cryptography`: tests/corpus/make.py signs the messages into a temporary file. Each block has 16
 //! transactions of 512 bytes, and each certificate has the fewest votes that reach the quorum.
 //!
-//! The nodes are those of `held/mod.rs`: committees of 4 and 20 members, with blocks of 16 transactions (8 KB) and of 504 (258 KB). Each row has
+//! The nodes are those of `held/mod.rs`: committees of 4, 20 and 100 members, with blocks of 16 transactions (8 KB) and of 504 (258 KB). Each row has
 //! the blocks and transactions that one core delivers in a second, the memory that the node holds at most, its longest call, and the longest
 //! call in which its history restarted. Times are of the processor.
 //!
@@ -28,7 +28,7 @@ mod file;
 mod held;
 
 use narwhal_store::{CheckError, Checked, CheckedBlock, CheckedCertificate, Committee};
-use narwhal_store::{Digest, Limits, Message, Session, StepError, Store, TextFault, check_all};
+use narwhal_store::{Digest, Limits, Session, StepError, Store, TextFault};
 use std::error::Error;
 use std::path::Path;
 use std::process::Command;
@@ -42,7 +42,14 @@ type Result<T> = std::result::Result<T, Box<dyn Error>>;
 /// Members and rounds.
 const LOADS: [[usize; 2]; 3] = [[4, 400], [10, 100], [100, 10]];
 /// Members, rounds, and the transactions of a block.
-const NODES: [[usize; 3]; 4] = [[4, 2_000, 16], [20, 350, 16], [4, 100, 504], [20, 30, 504]];
+const NODES: [[usize; 3]; 6] = [
+    [4, 2_000, 16],
+    [20, 350, 16],
+    [100, 60, 16],
+    [4, 100, 504],
+    [20, 45, 504],
+    [100, 44, 504],
+];
 /// The transactions of a block of the other loads.
 const TRANSACTIONS: usize = 16;
 const KEPT_ROUNDS: u64 = 20;
@@ -160,7 +167,7 @@ impl<'a> Load<'a> {
                 _ => (&mut certificate_checks, record),
             };
             messages.push(message);
-            match times.take(|| Message::check(&committee, message))? {
+            match times.take(|| committee.check(message))? {
                 Checked::Block(block) => {
                     let body = block.block().body();
                     digests.take(|| hint::black_box(Digest::of(&body)));
@@ -171,7 +178,7 @@ impl<'a> Load<'a> {
             }
             // A check finds a surplus byte only after the last field. So this check decodes the message, and does nothing else.
             let longer = [message, &[0]].concat();
-            let fault = decoding.take(|| Message::check(&committee, &longer));
+            let fault = decoding.take(|| committee.check(&longer));
             assert!(matches!(fault, Err(CheckError::Text(TextFault::Trailing))));
         }
         Ok(Load {
@@ -224,7 +231,7 @@ impl<'a> Load<'a> {
         let (mut alone, cores) = (None, thread::available_parallelism()?.get());
         for threads in (0..).map(|n| 1 << n).take_while(|it| *it <= cores) {
             let start = Instant::now();
-            let checked = check_all(&self.committee, &self.messages, threads);
+            let checked = self.committee.check_all(&self.messages, threads);
             let checks = start.elapsed();
             assert!(checked.iter().all(|outcome| outcome.is_ok()));
             let (all, checks) = ((checks + calls).as_secs_f64(), checks.as_secs_f64());

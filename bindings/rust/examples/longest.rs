@@ -1,4 +1,4 @@
-//! Measures what a peer can cost a validator: dropped messages, bad ones, and the longest calls under the store's lock.
+//! Measures what a peer can cost a validator: dropped messages, bad ones, messages in any order, and the longest calls under the store's lock.
 //!
 //! ```text
 //! cargo run --release --example longest
@@ -11,7 +11,7 @@
 mod lab;
 
 use lab::Com;
-use narwhal_store::{Checked, Digest, Limits, Message, Session, Store, Subject, check_all};
+use narwhal_store::{Checked, Committee, Digest, Limits, Peek, Session, Store, Subject};
 use std::error::Error;
 use std::hint::black_box;
 use std::time::Instant;
@@ -23,6 +23,9 @@ const FAULTY: u16 = 33;
 
 fn main() -> Result<()> {
     drops_and_checks()?;
+    for (members, rounds) in [(4, 600), (20, 120), (100, 24)] {
+        arrivals(members, rounds)?;
+    }
     for (members, rounds, lag) in [
         (50, 32, 32),
         (50, 512, 32),
@@ -80,7 +83,7 @@ fn drops_and_checks() -> Result<()> {
     let long = lab.com.certificate(&subject, &everybody);
     lab.take(&[block.clone(), known.clone()])?;
     mean("peek at a certificate", 2_000_000, || {
-        black_box(Message::peek(black_box(&known)));
+        black_box(Peek::of(black_box(&known)));
     });
     mean("look at a round and author", 2_000_000, || {
         black_box(lab.session.look(black_box(0), 0));
@@ -95,10 +98,81 @@ fn drops_and_checks() -> Result<()> {
     for (name, mut message) in messages {
         *message.last_mut().ok_or("a signature")? ^= 1;
         mean(&format!("check a bad {name}"), 20, || {
-            assert!(Message::check(&lab.com.committee, black_box(&message)).is_err());
+            assert!(lab.com.committee.check(black_box(&message)).is_err());
         });
     }
     Ok(())
+}
+
+/// Calls with the blocks and certificates of these rounds, in four orders.
+fn arrivals(members: u16, rounds: u64) -> Result<()> {
+    let com = Com::weighted(&Lab::heavy_weights(members));
+    let (mut blocks, mut certificates, mut parents) = (Vec::new(), Vec::new(), Vec::new());
+    for round in 0..rounds {
+        let made: Vec<_> = (0..members)
+            .map(|author| com.block(author, round, &parents, &[]))
+            .collect();
+        parents = made.iter().map(|(_, of)| (of.author, of.digest)).collect();
+        let certificate = |(_, of): &(Vec<u8>, Subject)| com.certificate(of, &[0]);
+        certificates.push(checked(&com.committee, made.iter().map(certificate))?);
+        blocks.push(checked(&com.committee, made.into_iter().map(|it| it.0))?);
+    }
+    let in_pairs = || blocks.iter().zip(&certificates);
+    let pairs = |round: (_, _)| Iterator::zip(<&Vec<_>>::into_iter(round.0), round.1);
+    let each = |(block, certificate)| [block, certificate];
+    let late = blocks[1..].iter().zip(&certificates);
+    let orders: [(&str, Vec<&Checked>); 4] = [
+        (
+            "each block with its certificate",
+            in_pairs().flat_map(pairs).flat_map(each).collect(),
+        ),
+        (
+            "blocks of the next round first",
+            blocks[0]
+                .iter()
+                .chain(late.flat_map(|(next, made)| next.iter().chain(made)))
+                .chain(certificates.iter().last().into_iter().flatten())
+                .collect(),
+        ),
+        (
+            "all blocks first",
+            blocks.iter().chain(&certificates).flatten().collect(),
+        ),
+        (
+            "newest round first",
+            in_pairs().rev().flat_map(pairs).flat_map(each).collect(),
+        ),
+    ];
+    for (order, messages) in orders {
+        let what = format!("a call, {members} members, {order}");
+        let micros = (0..3).map(|_| arrival(members, &messages));
+        let least = micros
+            .collect::<Result<Vec<_>>>()?
+            .into_iter()
+            .reduce(f64::min);
+        println!("{what:60} {:>12.3} us", least.ok_or("a run")?);
+    }
+    Ok(())
+}
+
+/// The mean time of a call with one of these messages, in a new store.
+fn arrival(members: u16, messages: &[&Checked]) -> Result<f64> {
+    let mut lab = Lab::heavy(members)?;
+    let start = Instant::now();
+    for message in messages {
+        lab.call(message)?;
+    }
+    let time = start.elapsed().as_secs_f64();
+    let complete = lab.session.status()?.into_reply().complete;
+    assert_eq!(2 * complete as usize, messages.len());
+    Ok(1e6 * time / messages.len() as f64)
+}
+
+/// The checked messages.
+fn checked(committee: &Committee, messages: impl Iterator<Item = Vec<u8>>) -> Result<Vec<Checked>> {
+    let messages: Vec<_> = messages.collect();
+    let all = committee.check_all(&messages, 4).into_iter();
+    Ok(all.collect::<std::result::Result<_, _>>()?)
 }
 
 /// Restarts of a store with this many rounds, of which the last `lag` ones are stored, with an empty and a full history.
@@ -128,7 +202,7 @@ fn restarts(members: u16, rounds: u64, lag: u64) -> Result<()> {
         Ok(lab.session.restart().map(drop)?)
     })?;
     let (message, _) = lab.com.block(0, rounds - 1, &[(0, Digest([1; 32]))], &[]);
-    let Checked::Block(twin) = Message::check(&lab.com.committee, &message)? else {
+    let Checked::Block(twin) = lab.com.committee.check(&message)? else {
         return Err("no block".into());
     };
     for _ in 0..3 {
@@ -159,7 +233,7 @@ fn withheld_certificate(rounds: u64, parents: usize) -> Result<()> {
     drop(lab.session.restart()?);
     let what = format!("certify, {rounds} rounds of 100 blocks with {parents} parents each");
     let message = lab.com.certificate(&first[0], &[0]);
-    let Checked::Certificate(certificate) = Message::check(&lab.com.committee, &message)? else {
+    let Checked::Certificate(certificate) = lab.com.committee.check(&message)? else {
         return Err("no certificate".into());
     };
     once(&what, || Ok(lab.session.certify(&certificate).map(drop)?))?;
@@ -208,8 +282,12 @@ impl Lab {
 
     /// A committee whose member 0 has the weight of a quorum.
     fn heavy(members: u16) -> Result<Lab> {
+        Lab::new(&Lab::heavy_weights(members))
+    }
+
+    fn heavy_weights(members: u16) -> Vec<u32> {
         let weight = |member| if member == 0 { 1_000 } else { 1 };
-        Lab::new(&(0..members).map(weight).collect::<Vec<u32>>())
+        (0..members).map(weight).collect()
     }
 
     /// Stores a block of each of these members for the round.
@@ -234,12 +312,17 @@ impl Lab {
         if self.store.events() + messages.len() > 65_000 {
             drop(self.session.restart()?);
         }
-        for checked in check_all(&self.com.committee, messages, 4) {
-            match checked? {
-                Checked::Block(block) => drop(self.session.write(&block)?),
-                Checked::Certificate(certificate) => drop(self.session.certify(&certificate)?),
-                Checked::Vote(_) => return Err("a vote".into()),
-            }
+        for message in self.com.committee.check_all(messages, 4) {
+            self.call(&message?)?;
+        }
+        Ok(())
+    }
+
+    fn call(&mut self, message: &Checked) -> Result<()> {
+        match message {
+            Checked::Block(block) => drop(self.session.write(block)?),
+            Checked::Certificate(certificate) => drop(self.session.certify(certificate)?),
+            Checked::Vote(_) => return Err("a vote".into()),
         }
         Ok(())
     }

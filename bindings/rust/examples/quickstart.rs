@@ -1,7 +1,7 @@
 //! A validator takes signed messages of a committee of four, and reads a block with its ancestors.
 mod data;
 
-use narwhal_store::{CertifyReply, Checked, Committee, Digest, Limits, Message, Store, WriteReply};
+use narwhal_store::{CertifyReply, Checked, Committee, Digest, Limits, Store, WriteReply};
 use std::error::Error;
 
 fn main() -> Result<(), Box<dyn Error>> {
@@ -13,7 +13,7 @@ fn main() -> Result<(), Box<dyn Error>> {
 
     for message in data::values("message") {
         // A check verifies the signatures of blocks and certificates, without the store's lock.
-        match Message::check(&committee, &message)? {
+        match committee.check(&message)? {
             Checked::Block(block) => {
                 let digest = block.subject().digest;
                 let first = WriteReply::Stored { vote: true }; // of its round and author

@@ -1,33 +1,25 @@
 //! Answers to calls.
 
-use crate::room::Room;
+use crate::debug::debug_by;
+use crate::ffi::Handle;
 use crate::{CausalFault, History, Reply, Ticket};
 use std::cell::OnceCell;
-use std::fmt;
 
 /// The answer to a call: the reply, and the history that explains it.
 ///
 /// The type is `Send` and not `Sync`.
-///
-/// ```compile_fail,E0277
-/// fn shared<T: Sync>() {}
-/// shared::<narwhal_store::Answer<narwhal_store::WriteReply>>();
-/// ```
-#[must_use = "the reply says what a validator does next: whether it logs the call, and whether it votes"]
+#[must_use = "the reply says what a validator does next, so write `let _ =` if it does not matter"]
 pub struct Answer<R> {
     history: History,
     reply: OnceCell<R>,
-    decode: Decode<R>,
+    decode: fn(&mut Handle) -> R,
 }
-
-/// Decodes the reply of an answer. If this is the last use of the answer, its handle may be taken.
-pub(crate) type Decode<R> = fn(&mut Room, is_last: bool) -> R;
 
 impl<R> Answer<R> {
     #[inline]
-    pub(crate) fn new(room: Room, decode: Decode<R>) -> Answer<R> {
+    pub(crate) fn new(handle: Handle, decode: fn(&mut Handle) -> R) -> Answer<R> {
         Answer {
-            history: History::new(room),
+            history: History::new(handle),
             reply: OnceCell::new(),
             decode,
         }
@@ -36,14 +28,14 @@ impl<R> Answer<R> {
     /// Returns the reply, which is decoded on first use.
     #[must_use]
     pub fn reply(&self) -> &R {
-        let decode = || (self.decode)(&mut self.history.room(), false);
+        let decode = || (self.decode)(&mut self.history.handle());
         self.reply.get_or_init(decode)
     }
 
     /// Returns the reply and drops the history.
     #[must_use]
     pub fn into_reply(self) -> R {
-        let decode = || (self.decode)(&mut self.history.into_room(), true);
+        let decode = || (self.decode)(&mut self.history.handle());
         self.reply.into_inner().unwrap_or_else(decode)
     }
 
@@ -54,14 +46,7 @@ impl<R> Answer<R> {
     }
 }
 
-impl<R: fmt::Debug> fmt::Debug for Answer<R> {
-    fn fmt(&self, f: &mut fmt::Formatter<'_>) -> fmt::Result {
-        f.debug_struct("Answer")
-            .field("reply", self.reply())
-            .field("history", &self.history)
-            .finish()
-    }
-}
+debug_by!(Answer<R>: reply, history);
 
 /// The answer to a causal read.
 ///
@@ -88,10 +73,10 @@ pub enum Causal {
 }
 
 impl Causal {
-    pub(crate) fn of(mut room: Room) -> Causal {
-        match Reply::read(&mut room) {
-            Reply::Ready => Causal::Ready(Ticket::new(room)),
-            _ => Causal::NotReady(Answer::new(room, |answer, _| CausalFault::read(answer))),
+    pub(crate) fn of(mut handle: Handle) -> Causal {
+        match Reply::read(&mut handle) {
+            Reply::Ready => Causal::Ready(Ticket::new(handle)),
+            _ => Causal::NotReady(Answer::new(handle, CausalFault::read)),
         }
     }
 

@@ -1,25 +1,27 @@
 //! Blocks.
 
 use crate::code::{Code, read};
-use crate::debug::debug_by;
+use crate::debug::{debug_by, equal_by};
 use crate::error::coded_error;
 use crate::ffi::{self, Handle};
 use crate::lock::Lock;
 use crate::parts::Parts;
 use crate::raw::RawParent;
-use crate::room::Room;
-use crate::{Digest, Signature, Subject, Transactions, text_of_block};
+use crate::{Digest, Limits, Signature, Subject, Transactions, text_of_block};
 use std::sync::{Arc, OnceLock};
+
+/// The most parents and transactions of a block.
+const MOST_PARENTS: usize = 100;
+const MOST_TRANSACTIONS: usize = 1_024;
 
 /// A block: its author, its round, its references to blocks of the preceding round, and its
 /// transactions.
 ///
-/// A clone is a second owner of the same block. The first use of a block, also to read its digest
-/// or to clone it, allocates memory. If memory runs out, the process ends, as with `Vec`. The first
-/// use of the parents or the transactions copies them all, once.
+/// A clone is a second owner of the same block, and costs one atomic increment. The first use of the
+/// parents or the transactions copies them all, once. Two blocks are equal if they have one digest.
 ///
 /// A block made by [`Block::new`] is within the limits of the format, but it is not checked under a
-/// committee. [`Message::check`](crate::Message::check) does that for a signed block.
+/// committee. [`Committee::check`](crate::Committee::check) does that for a signed block.
 ///
 /// ```
 /// use narwhal_store::{Block, Digest};
@@ -32,27 +34,14 @@ use std::sync::{Arc, OnceLock};
 /// assert_eq!(block.digest(), Digest::of(&block.body()));
 /// # Ok::<(), narwhal_store::BlockError>(())
 /// ```
-pub struct Block {
-    /// The source of the block until its parts are first used.
-    source: Lock<Option<Source>>,
-    inner: OnceLock<Arc<Inner>>,
-}
-
-/// A place from which the library gives a block.
-pub(crate) enum Source {
-    /// Its own handle.
-    Own(Handle),
-    /// The answer to a read.
-    Answer(Room),
-    /// This index of the list of a walk.
-    Listed(Arc<Lock<Handle>>, usize),
-}
+#[derive(Clone)]
+pub struct Block(Arc<Inner>);
 
 /// The state that all owners of a block share.
 struct Inner {
     handle: Lock<Handle>,
     subject: Subject,
-    parts: OnceLock<Parts>,
+    parts: OnceLock<Box<Parts>>,
 }
 
 impl Block {
@@ -73,44 +62,46 @@ impl Block {
         parents: &[(u16, Digest)],
         transactions: &[impl AsRef<[u8]>],
     ) -> Result<Block, BlockError> {
+        if round >> 48 > 0 {
+            return Err(BlockError::BadRound);
+        }
+        // What exceeds a limit is refused before it is copied. The library tests all limits again.
+        if parents.len() > MOST_PARENTS || transactions.len() > MOST_TRANSACTIONS {
+            return Err(BlockError::OverLimit);
+        }
         let raw = |&(author, digest)| RawParent { author, digest };
         let parents: Vec<_> = parents.iter().map(raw).collect();
-        let texts: Vec<&[u8]> = transactions.iter().map(AsRef::as_ref).collect();
-        let lengths: Result<Vec<u32>, _> = texts.iter().map(|text| text.len().try_into()).collect();
-        let lengths = lengths.map_err(|_| BlockError::OverLimit)?;
-        let handle = ffi::block_new(author, round, &parents, &texts.concat(), &lengths)?;
-        Ok(Block::at(Source::Own(handle)))
-    }
-
-    /// The block from this source.
-    #[inline]
-    pub(crate) fn at(source: Source) -> Block {
-        Block {
-            source: Lock::new(Some(source)),
-            inner: OnceLock::new(),
+        let (mut bytes, mut lengths) = (Vec::new(), Vec::new());
+        for transaction in transactions.iter().map(AsRef::as_ref) {
+            if transaction.len() > Limits::MOST_BODY - bytes.len() {
+                return Err(BlockError::OverLimit);
+            }
+            bytes.extend_from_slice(transaction);
+            lengths.push(transaction.len() as u32);
         }
+        let handle = ffi::block_new(author, round, &parents, &bytes, &lengths)?;
+        Ok(Block::of(handle))
     }
 
-    /// The block that a read found. The answer stays usable.
-    pub(crate) fn found(answer: &mut Handle) -> Block {
-        Block::at(Source::Own(opened_or_abort(|out| {
-            ffi::nw_answer_block(answer, out)
-        })))
+    /// The block that the call opens. If memory runs out, this ends the process, as `Vec` does.
+    pub(crate) fn opened(open: impl FnOnce(&mut Handle) -> Code) -> Block {
+        Block::of(Handle::opened(open).unwrap_or_else(Code::abort))
     }
 
-    fn inner(&self) -> &Arc<Inner> {
-        self.inner.get_or_init(|| {
-            let source = self.source.lock().take();
-            let source = source.expect("a block has a source until its parts are first used");
-            Arc::new(Inner::of(source))
-        })
+    /// The block of a handle of its own.
+    fn of(mut handle: Handle) -> Block {
+        let subject = read(|out| ffi::nw_block_subject(&mut handle, out));
+        let (handle, parts) = (Lock::of(handle), OnceLock::new());
+        Block(Arc::new(Inner {
+            handle,
+            subject,
+            parts,
+        }))
     }
 
     fn parts(&self) -> &Parts {
-        let inner = self.inner();
-        inner
-            .parts
-            .get_or_init(|| Parts::of(&mut inner.handle.lock()))
+        let parts = || Box::new(Parts::of(&mut self.0.handle.lock()));
+        self.0.parts.get_or_init(parts)
     }
 
     /// Returns the SHA-256 digest of the body.
@@ -134,7 +125,7 @@ impl Block {
     /// Returns the digest with the round and the author.
     #[must_use]
     pub fn subject(&self) -> Subject {
-        self.inner().subject
+        self.0.subject
     }
 
     /// Returns the author and the digest of each parent, in ascending order of the authors.
@@ -152,7 +143,7 @@ impl Block {
     /// Returns the encoded body, at most 1,048,576 bytes. Its SHA-256 is the digest of the block.
     #[must_use]
     pub fn body(&self) -> Vec<u8> {
-        ffi::block_body(&mut self.inner().handle.lock()).unwrap_or_else(Code::abort)
+        ffi::block_body(&mut self.0.handle.lock()).unwrap_or_else(Code::abort)
     }
 
     /// Returns the 36 bytes that the author signs.
@@ -167,53 +158,16 @@ impl Block {
     /// This does not verify the signature.
     #[must_use]
     pub fn message(&self, signature: &Signature) -> Vec<u8> {
-        let message = ffi::block_message(&mut self.inner().handle.lock(), signature);
+        let message = ffi::block_message(&mut self.0.handle.lock(), signature);
         message.unwrap_or_else(Code::abort)
     }
 }
 
-impl Inner {
-    /// Opens a handle for this block only. If memory runs out, this ends the process, as `Vec`
-    /// does.
-    fn of(source: Source) -> Inner {
-        let mut handle = match source {
-            Source::Own(handle) => handle,
-            Source::Answer(mut answer) => {
-                opened_or_abort(|out| ffi::nw_answer_block(&mut answer, out))
-            }
-            Source::Listed(list, index) => {
-                opened_or_abort(|out| ffi::nw_list_block(&mut list.lock(), index, out))
-            }
-        };
-        let subject = read(Subject::EMPTY, |out| {
-            ffi::nw_block_subject(&mut handle, out)
-        });
-        Inner {
-            handle: Lock::new(handle),
-            subject,
-            parts: OnceLock::new(),
-        }
-    }
-}
-
-/// The handle that the call opens. If memory runs out, this ends the process, as `Vec` does.
-pub(crate) fn opened_or_abort(open: impl FnOnce(&mut Handle) -> Code) -> Handle {
-    Handle::opened(open).unwrap_or_else(Code::abort)
-}
-
-impl Clone for Block {
-    fn clone(&self) -> Block {
-        Block {
-            source: Lock::new(None),
-            inner: OnceLock::from(Arc::clone(self.inner())),
-        }
-    }
-}
-
+equal_by!(Block: digest);
 debug_by!(Block: subject);
 
 /// Why a block cannot be made.
-#[derive(Clone, Copy, Debug, PartialEq, Eq)]
+#[derive(Clone, Copy, Debug, PartialEq, Eq, Hash)]
 #[non_exhaustive]
 pub enum BlockError {
     /// The round is 2^48 or more.
@@ -231,44 +185,30 @@ coded_error!(BlockError {
 
 #[cfg(test)]
 mod tests {
-    use super::{Block, Source};
+    use super::Block;
     use crate::Signature;
-    use crate::lock::{Lock, tests::panic_under};
-    use crate::no_memory::{closed, closed_room, refuses};
-    use std::sync::Arc;
-
-    fn block() -> Block {
-        Block::new(0, 1, &[], &["x"]).unwrap()
-    }
+    use crate::ffi::{Handle, nw_list_block};
+    use crate::lock::tests::panic_under;
+    use crate::no_memory::{closed, refuses};
 
     #[test]
     fn a_panic_under_a_lock_stops_nobody() {
-        let (source, handle) = (block(), block());
-        panic_under(|| source.source.lock());
-        assert_eq!(source.round(), 1);
-        panic_under(|| handle.inner().handle.lock());
-        assert_eq!(
-            (handle.body(), handle.digest()),
-            (source.body(), source.digest())
-        );
-    }
-
-    #[test]
-    fn a_panic_of_another_reader_stops_no_walk() {
-        let list = Arc::new(Lock::new(closed()));
-        panic_under(|| list.lock());
-        // The text is that of a closed handle, and not that of a lock.
-        refuses(|| Block::at(Source::Listed(list, 0)).round());
+        let [block, other] = [(); 2].map(|()| Block::new(0, 1, &[], &["x"]).unwrap());
+        panic_under(|| block.0.handle.lock());
+        assert_eq!((block.body(), block), (other.body(), other));
     }
 
     #[test]
     fn what_cannot_be_read_is_not_empty() {
-        let own = || Block::at(Source::Own(closed()));
-        refuses(|| own().body());
-        refuses(|| own().digest());
-        refuses(|| own().message(&Signature([0; 64])));
-        let list = Arc::new(Lock::new(closed()));
-        refuses(|| Block::at(Source::Listed(list, 0)).round());
-        refuses(|| Block::at(Source::Answer(closed_room())).round());
+        let block = || {
+            let block = Block::new(0, 1, &[], &["x"]).unwrap();
+            drop(block.0.handle.lock().take());
+            block
+        };
+        refuses(|| block().body());
+        refuses(|| block().parents().len());
+        refuses(|| block().message(&Signature([0; 64])));
+        refuses(|| Block::of(closed()));
+        refuses(|| Block::opened(|out: &mut Handle| nw_list_block(&mut closed(), 0, out)));
     }
 }

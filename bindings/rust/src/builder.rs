@@ -1,10 +1,10 @@
 //! The settings of a new store.
 
-use crate::ffi::{self, Handle, Spare};
-use crate::lock::Lock;
-use crate::room::EventContent;
+use crate::content::EventContent;
+use crate::ffi::{self, Handle};
+use crate::lock::{Lock, Rank};
 use crate::store::Inner;
-use crate::turns::Turns;
+use crate::turns::{Counts, Turns};
 use crate::{Committee, Limits, OpenError, Store};
 use std::sync::Arc;
 
@@ -18,8 +18,28 @@ pub struct StoreBuilder {
     takes_turns: bool,
 }
 
-impl StoreBuilder {
-    pub(crate) fn new(committee: &Committee) -> StoreBuilder {
+impl Store {
+    /// Returns a builder for a store under the committee, with [`Limits::default`] and automatic
+    /// restarts.
+    ///
+    /// ```
+    /// # use narwhal_store::{Committee, PublicKey};
+    /// use narwhal_store::{Limits, Store};
+    ///
+    /// # let committee = Committee::equal(&[PublicKey([7; 32])])?;
+    /// let store = Store::builder(&committee)
+    ///     .limits(Limits { window: 64, ..Limits::default() })
+    ///     .restart_when(Store::HISTORY_BYTES, 2)
+    ///     .open()?;
+    /// let mut session = store.session()?;
+    /// for _ in 0..3 {
+    ///     let _ = session.status()?;
+    /// }
+    /// // The third call found two events, and began a new history.
+    /// assert_eq!(store.events(), 1);
+    /// # Ok::<(), Box<dyn std::error::Error>>(())
+    /// ```
+    pub fn builder(committee: &Committee) -> StoreBuilder {
         StoreBuilder {
             committee: committee.clone(),
             limits: Limits::default(),
@@ -30,7 +50,9 @@ impl StoreBuilder {
             takes_turns: true,
         }
     }
+}
 
+impl StoreBuilder {
     /// Sets the limits.
     pub fn limits(mut self, limits: Limits) -> StoreBuilder {
         self.limits = limits;
@@ -78,8 +100,9 @@ impl StoreBuilder {
 
     /// Makes a store whose threads do not wait for their turns: a call that finds the library busy is
     /// made again, until the library is not busy. All that is proved of the library holds for such a
-    /// store too. It is for tests.
-    #[doc(hidden)]
+    /// store too.
+    ///
+    /// Use it if one thread makes all calls, or if the program has a lock of its own around them.
     pub fn without_turns(mut self) -> StoreBuilder {
         self.takes_turns = false;
         self
@@ -99,9 +122,9 @@ impl StoreBuilder {
         });
         Ok(Store {
             inner: Arc::new(Inner {
-                store: Lock::new(store),
+                store: Lock::new(Rank::Store, store),
+                idle: Lock::of(Vec::new()),
                 turns: Turns::new(self.takes_turns),
-                spare: Arc::new(Spare::new()),
                 committee: self.committee,
                 limits: self.limits,
                 restart_when,
@@ -118,10 +141,10 @@ pub(crate) struct RestartWhen {
 }
 
 impl RestartWhen {
-    /// Whether a history of these events and bytes restarts before a call with this content.
+    /// Whether a history of these counts restarts before a call with this content.
     #[inline]
-    pub(crate) fn is_met(self, events: usize, bytes: u64, content: EventContent) -> bool {
-        let is_over = bytes + content.most() > self.bytes;
-        events > 0 && (is_over || events >= self.events as usize)
+    pub(crate) fn is_met(self, counts: &Counts, content: EventContent) -> bool {
+        let is_over = counts.bytes + content.most() > self.bytes;
+        counts.events > 0 && (is_over || counts.events >= u64::from(self.events))
     }
 }

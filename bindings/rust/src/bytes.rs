@@ -96,9 +96,6 @@ bytes! {
 }
 
 impl Digest {
-    /// A digest for the library to write into.
-    pub(crate) const ZERO: Digest = Digest([0; 32]);
-
     /// Returns the SHA-256 digest of the bytes.
     #[must_use]
     pub fn of(bytes: &[u8]) -> Digest {
@@ -107,7 +104,7 @@ impl Digest {
 }
 
 /// The error of parsing bytes from hex.
-#[derive(Clone, Copy, Debug, PartialEq, Eq)]
+#[derive(Clone, Copy, Debug, PartialEq, Eq, Hash)]
 #[non_exhaustive]
 pub enum HexError {
     /// The text has `found` bytes instead of `expected`.
@@ -156,6 +153,10 @@ mod tests {
         assert_eq!(short, Err(HexError::Length { expected, found }));
         let text = format!("{}g", "0".repeat(63));
         assert_eq!(text.parse::<Digest>(), Err(HexError::Digit { index: 63 }));
+        for byte in 0..=127 {
+            let parsed = format!("{}{}", "0".repeat(63), char::from(byte)).parse::<Digest>();
+            assert_eq!(parsed.is_ok(), byte.is_ascii_hexdigit(), "{byte}");
+        }
         let not_ascii = format!("{}é", "0".repeat(62));
         assert_eq!(
             not_ascii.parse::<Digest>(),
@@ -165,7 +166,7 @@ mod tests {
 
     #[test]
     fn keys_and_signatures_print_in_hex() {
-        assert_eq!(PublicKey([0xab; 32]).to_string(), "ab".repeat(32));
+        assert_eq!(PublicKey([0x0b; 32]).to_string(), "0b".repeat(32));
         assert_eq!("CD".repeat(64).parse(), Ok(Signature([0xcd; 64])));
     }
 }

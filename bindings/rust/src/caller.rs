@@ -23,9 +23,15 @@ impl Caller {
         self.run
     }
 
+    /// Takes the caller out of a session that is dropped, unless its handle is given away.
+    pub(crate) fn take(&mut self) -> Option<Caller> {
+        let (handle, run) = (self.handle.take(), self.run);
+        (!handle.is_closed()).then_some(Caller { handle, run })
+    }
+
     /// The number of the session among those of its store.
     pub(crate) fn id(&mut self) -> u16 {
-        read(0, |out| ffi::nw_session_id(&mut self.handle, out))
+        read(|out| ffi::nw_session_id(&mut self.handle, out))
     }
 
     /// Makes a call of the session, and again while the library is busy.
@@ -36,7 +42,7 @@ impl Caller {
 
     /// Reads the number of the run. Calls can change it.
     pub(crate) fn note_run(&mut self) {
-        self.run = read(0, |out| ffi::nw_session_run(&mut self.handle, out));
+        self.run = read(|out| ffi::nw_session_run(&mut self.handle, out));
     }
 }
 

@@ -1,5 +1,6 @@
 //! The codes that the library returns.
 
+use crate::raw::Empty;
 use std::alloc::{Layout, handle_alloc_error};
 
 /// A code that a function of the library returned.
@@ -77,17 +78,19 @@ impl Code {
     }
 }
 
-/// What a call writes over this value. If the call fails, this ends the process.
+/// What a call writes. If the call fails, this ends the process.
 #[inline]
-pub(crate) fn read<T>(mut value: T, call: impl FnOnce(&mut T) -> Code) -> T {
+pub(crate) fn read<T: Empty>(call: impl FnOnce(&mut T) -> Code) -> T {
+    let mut value = T::EMPTY;
     call(&mut value).or_abort();
     value
 }
 
-/// What a call writes over this value, or `None` if the call returns `ABSENT`. If the call fails,
-/// this ends the process.
+/// What a call writes, or `None` if the call returns `ABSENT`. If the call fails, this ends the
+/// process.
 #[inline]
-pub(crate) fn find<T>(mut value: T, call: impl FnOnce(&mut T) -> Code) -> Option<T> {
+pub(crate) fn find<T: Empty>(call: impl FnOnce(&mut T) -> Code) -> Option<T> {
+    let mut value = T::EMPTY;
     match call(&mut value) {
         Code::DONE => Some(value),
         other => other.none_or_abort(),
@@ -95,26 +98,29 @@ pub(crate) fn find<T>(mut value: T, call: impl FnOnce(&mut T) -> Code) -> Option
 }
 
 #[cfg(test)]
-mod tests {
+pub(crate) mod tests {
     use super::Code;
     use std::{env, process};
 
-    /// The test starts itself once more: that process must end.
-    #[test]
-    fn a_decoding_without_memory_ends_the_process() {
-        let name = "code::tests::a_decoding_without_memory_ends_the_process";
-        let wanted = "WITHOUT_MEMORY";
+    /// What a process says that runs this. It must abort. The test of this name starts itself once
+    /// more for it.
+    pub(crate) fn dies(test: &str, run: impl FnOnce()) -> String {
+        let wanted = "NARWHAL_STORE_DIES";
         if env::var_os(wanted).is_some() {
-            Code::NO_MEMORY.or_abort();
+            run();
             process::exit(0);
         }
         let mut again = process::Command::new(env::current_exe().unwrap());
-        let again = again
-            .args(["--exact", name, "--nocapture"])
-            .env(wanted, "1");
+        let again = again.args(["--exact", test, "--nocapture"]).env(wanted, "");
         let ended = again.output().unwrap();
-        let said = String::from_utf8_lossy(&ended.stderr);
-        let is_ended = ended.status.code().is_none() && said.contains("memory allocation");
-        assert!(is_ended, "{ended:?}");
+        assert_eq!(ended.status.code(), None, "{ended:?}");
+        String::from_utf8_lossy(&ended.stderr).into_owned()
+    }
+
+    #[test]
+    fn a_decoding_without_memory_ends_the_process() {
+        let name = "code::tests::a_decoding_without_memory_ends_the_process";
+        let said = dies(name, || Code::NO_MEMORY.or_abort());
+        assert!(said.contains("memory allocation"), "{said}");
     }
 }

@@ -2,14 +2,14 @@
 
 use crate::PublicKey;
 use crate::code::{Code, read};
+use crate::debug::{debug_by, equal_by};
 use crate::error::coded_error;
 use crate::ffi::{self, Handle};
 use crate::lock::Lock;
-use std::fmt;
 use std::sync::Arc;
 
 /// A member of a committee.
-#[derive(Clone, Copy, Debug, PartialEq, Eq)]
+#[derive(Clone, Copy, Debug, PartialEq, Eq, Hash)]
 #[repr(C)]
 pub struct Member {
     /// The key that the member signs with.
@@ -21,7 +21,8 @@ pub struct Member {
 /// The members that may author blocks and vote for them, with their keys and weights.
 ///
 /// A member's number is its place in the list that the committee is made from. The committee never
-/// changes. A clone is a second owner of the same committee and costs one atomic increment.
+/// changes. A clone is a second owner of the same committee and costs one atomic increment. Two
+/// committees are equal if they have the same members in the same order.
 ///
 /// ```
 /// use narwhal_store::{Committee, Member, PublicKey};
@@ -34,9 +35,7 @@ pub struct Member {
 /// # Ok::<(), narwhal_store::CommitteeError>(())
 /// ```
 #[derive(Clone)]
-pub struct Committee {
-    inner: Arc<Inner>,
-}
+pub struct Committee(Arc<Inner>);
 
 struct Inner {
     /// Locked only to make a second handle of the committee.
@@ -58,9 +57,7 @@ impl Committee {
     /// a weight from 1 to 1,000,000.
     pub fn new(members: &[Member]) -> Result<Committee, CommitteeError> {
         let handle = ffi::committee_new(members)?;
-        Ok(Committee {
-            inner: Arc::new(Inner::of(handle, members)),
-        })
+        Ok(Committee(Arc::new(Inner::of(handle, members))))
     }
 
     /// Makes a committee of members of weight 1.
@@ -76,7 +73,7 @@ impl Committee {
     /// Returns the number of members.
     #[must_use]
     pub fn size(&self) -> usize {
-        self.inner.members.len()
+        self.members().len()
     }
 
     /// Returns the weight of a quorum: two thirds of the sum of all weights, rounded down, plus 1.
@@ -84,36 +81,33 @@ impl Committee {
     /// Of 3f + 1 members of weight 1, this is 2f + 1.
     #[must_use]
     pub fn quorum(&self) -> u32 {
-        self.inner.quorum
+        self.0.quorum
+    }
+
+    fn members(&self) -> &[Member] {
+        &self.0.members
     }
 
     /// The most members that can be faulty: those of the least weights, which are together less than
     /// a third of the sum of all.
     pub(crate) fn most_faulty(&self) -> u64 {
-        let mut weights: Vec<_> = self
-            .inner
-            .members
-            .iter()
-            .map(|of| u64::from(of.weight))
-            .collect();
+        let members = self.members().iter();
+        let mut weights: Vec<_> = members.map(|of| u64::from(of.weight)).collect();
         weights.sort_unstable();
-        let most = (weights.iter().sum::<u64>() - 1) / 3;
-        let sums = weights.iter().scan(0, |sum, weight| {
-            *sum += weight;
-            Some(*sum)
-        });
-        sums.take_while(|sum| *sum <= most).count() as u64
+        let mut left = (weights.iter().sum::<u64>() - 1) / 3;
+        let take = |weight: &u64| left.checked_sub(*weight).map(|less| left = less);
+        weights.iter().map_while(take).count() as u64
     }
 
     /// Returns the member with this number, or `None` if there is no such member.
     #[must_use]
     pub fn member(&self, author: u16) -> Option<Member> {
-        self.inner.members.get(usize::from(author)).copied()
+        self.members().get(usize::from(author)).copied()
     }
 
     /// A handle for calls that run without a lock.
     pub(crate) fn share(&self) -> Result<Handle, Code> {
-        let mut handle = self.inner.handle.lock();
+        let mut handle = self.0.handle.lock();
         Handle::opened(|out| ffi::nw_committee_share(&mut handle, out))
     }
 }
@@ -122,23 +116,17 @@ impl Inner {
     fn of(mut handle: Handle, members: &[Member]) -> Inner {
         Inner {
             members: members.into(),
-            quorum: read(0, |out| ffi::nw_committee_quorum(&mut handle, out)),
-            handle: Lock::new(handle),
+            quorum: read(|out| ffi::nw_committee_quorum(&mut handle, out)),
+            handle: Lock::of(handle),
         }
     }
 }
 
-impl fmt::Debug for Committee {
-    fn fmt(&self, f: &mut fmt::Formatter<'_>) -> fmt::Result {
-        f.debug_struct("Committee")
-            .field("members", &self.inner.members)
-            .field("quorum", &self.inner.quorum)
-            .finish()
-    }
-}
+equal_by!(Committee: members);
+debug_by!(Committee: size, quorum);
 
 /// Why a committee cannot be made.
-#[derive(Clone, Copy, Debug, PartialEq, Eq)]
+#[derive(Clone, Copy, Debug, PartialEq, Eq, Hash)]
 #[non_exhaustive]
 pub enum CommitteeError {
     /// There are no members or more than 100, a weight is not from 1 to 1,000,000, or two members
@@ -183,7 +171,7 @@ mod tests {
     #[test]
     fn a_panic_under_the_lock_stops_nobody() {
         let committee = Committee::equal(&[PublicKey([1; 32])]).unwrap();
-        panic_under(|| committee.inner.handle.lock());
+        panic_under(|| committee.0.handle.lock());
         assert!(committee.share().is_ok());
     }
 }

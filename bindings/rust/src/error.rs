@@ -54,7 +54,7 @@ pub(crate) use {coded_error, error_texts, from_codes};
 ///
 /// Calls that only decode the result of another call return no error. If memory runs out, they end
 /// the process, as `Vec` and `Arc` do.
-#[derive(Clone, Copy, Debug, PartialEq, Eq)]
+#[derive(Clone, Copy, Debug, PartialEq, Eq, Hash)]
 pub struct NoMemory;
 
 error_texts!(NoMemory {
@@ -73,7 +73,7 @@ impl From<Code> for NoMemory {
 }
 
 /// A round is 2^48 or more.
-#[derive(Clone, Copy, Debug, PartialEq, Eq)]
+#[derive(Clone, Copy, Debug, PartialEq, Eq, Hash)]
 pub struct BadRound;
 
 error_texts!(BadRound {
@@ -91,7 +91,7 @@ impl From<Code> for BadRound {
 }
 
 /// Why a store cannot be opened, or a session cannot be made.
-#[derive(Clone, Copy, Debug, PartialEq, Eq)]
+#[derive(Clone, Copy, Debug, PartialEq, Eq, Hash)]
 #[non_exhaustive]
 pub enum OpenError {
     /// A limit is outside its range.
@@ -109,7 +109,7 @@ coded_error!(OpenError {
 
 /// Why a call took no step. The store is as it was before the call, with one exception: if the call
 /// restarted the history first, the history is empty.
-#[derive(Clone, Copy, Debug, PartialEq, Eq)]
+#[derive(Clone, Copy, Debug, PartialEq, Eq, Hash)]
 #[non_exhaustive]
 pub enum StepError {
     /// The block or certificate was checked under another committee than the store's.

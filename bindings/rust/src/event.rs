@@ -6,7 +6,7 @@ use crate::ffi::{self, Handle};
 use crate::raw::{RawEvent, RawTagged, unexpected_kind};
 
 /// One call of a session, with its reply.
-#[derive(Clone, Copy, Debug, PartialEq, Eq)]
+#[derive(Clone, Copy, Debug, PartialEq, Eq, Hash)]
 pub struct Event {
     /// The number of the session, from 0.
     pub session: u16,
@@ -104,7 +104,7 @@ pub enum Reply {
 }
 
 impl Event {
-    pub(crate) fn of(raw: &RawEvent) -> Event {
+    pub(crate) fn of(raw: RawEvent) -> Event {
         Event {
             session: raw.session,
             number: raw.number,
@@ -136,8 +136,7 @@ impl Reply {
     /// The reply of an answer.
     #[inline]
     pub(crate) fn read(answer: &mut Handle) -> Reply {
-        let raw = read(RawTagged::EMPTY, |out| ffi::nw_answer_reply(answer, out));
-        Reply::of(&raw)
+        Reply::of(&read(|out| ffi::nw_answer_reply(answer, out)))
     }
 
     /// Decodes a reply. The numbers are the kinds of replies in `nw.h`.
@@ -184,7 +183,7 @@ mod tests {
     fn raw(kind: i32) -> RawTagged {
         RawTagged {
             kind,
-            number: 7,
+            number: 65_007,
             digest: DIGEST,
         }
     }
@@ -197,8 +196,8 @@ mod tests {
             Call::Certificate(DIGEST),
             Call::Read(DIGEST),
             Call::Causal(DIGEST),
-            Call::Collect(7),
-            Call::Missing(7),
+            Call::Collect(65_007),
+            Call::Missing(65_007),
             Call::Status,
             Call::MissingOf(DIGEST),
         ];
@@ -211,7 +210,7 @@ mod tests {
     /// blocks would need one digest.
     #[test]
     fn each_kind_of_reply_is_told() {
-        let garbage_round = 7;
+        let garbage_round = 65_007;
         let replies = [
             Reply::Stored { vote: true },
             Reply::Stored { vote: false },
@@ -230,9 +229,9 @@ mod tests {
             Reply::Uncertified,
             Reply::Incomplete,
             Reply::Ready,
-            Reply::Raised { dropped: 7 },
+            Reply::Raised { dropped: 65_007 },
             Reply::NotHigher { garbage_round },
-            Reply::Missing { listed: 7 },
+            Reply::Missing { listed: 65_007 },
             Reply::Status,
         ];
         for (kind, reply) in (201..).zip(replies) {

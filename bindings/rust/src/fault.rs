@@ -9,7 +9,7 @@ use std::fmt;
 ///
 /// The error's text names only the kind of the message. Its source is the rule that the message
 /// breaks.
-#[derive(Clone, Copy, Debug, PartialEq, Eq)]
+#[derive(Clone, Copy, Debug, PartialEq, Eq, Hash)]
 #[non_exhaustive]
 pub enum CheckError {
     /// The bytes are not a message.
@@ -22,95 +22,87 @@ pub enum CheckError {
     NoMemory,
 }
 
-/// The first fault of bytes that are not a message, in reading order.
-#[derive(Clone, Copy, Debug, PartialEq, Eq)]
-#[non_exhaustive]
-pub enum TextFault {
-    /// The bytes end before the message does.
-    Short,
-    /// Bytes follow the message.
-    Trailing,
-    /// The tag is not that of a block, a certificate or a vote.
-    Tag,
-    /// The version of the body is not 1.
-    Version,
-    /// The block has more than 100 parents.
-    ManyParents,
-    /// The authors of the parents are not strictly ascending.
-    ParentOrder,
-    /// The block has more than 1,024 transactions.
-    ManyTransactions,
-    /// A transaction has more than 65,536 bytes.
-    LongTransaction,
-    /// The body has more than 1,048,576 bytes.
-    LongBody,
-    /// The certificate has more than 100 votes.
-    ManyVotes,
-    /// The signers of the votes are not strictly ascending.
-    VoteOrder,
+/// Makes the type of a fault: the number of each in `nw.h`, and its text.
+macro_rules! faults {
+    ($($(#[$about:meta])* $name:ident {
+        $($(#[$rule:meta])* $variant:ident $({ $(#[$of:meta])* $field:ident: $type:ty })? = $number:literal: $text:literal,)+
+    })+) => {$(
+        $(#[$about])*
+        #[derive(Clone, Copy, Debug, PartialEq, Eq, Hash)]
+        #[non_exhaustive]
+        pub enum $name {
+            $($(#[$rule])* $variant $({ $(#[$of])* $field: $type })?,)+
+        }
+
+        error_texts!($name { $($name::$variant $({ $field })? => $text,)+ });
+
+        impl $name {
+            fn of(raw: &RawMessage) -> Option<$name> {
+                match raw.kind {
+                    $($number => Some($name::$variant $({ $field: raw.$field })?),)+
+                    _ => None,
+                }
+            }
+        }
+    )+};
 }
 
-error_texts!(TextFault {
-    TextFault::Short => "the bytes end before the message does",
-    TextFault::Trailing => "bytes follow the message",
-    TextFault::Tag => "the tag is not that of a block, a certificate or a vote",
-    TextFault::Version => "the version of the body is not 1",
-    TextFault::ManyParents => "the block has more than 100 parents",
-    TextFault::ParentOrder => "the authors of the parents are not strictly ascending",
-    TextFault::ManyTransactions => "the block has more than 1,024 transactions",
-    TextFault::LongTransaction => "a transaction has more than 65,536 bytes",
-    TextFault::LongBody => "the body has more than 1,048,576 bytes",
-    TextFault::ManyVotes => "the certificate has more than 100 votes",
-    TextFault::VoteOrder => "the signers of the votes are not strictly ascending",
-});
+faults! {
+    /// The first fault of bytes that are not a message, in reading order.
+    TextFault {
+        /// The bytes end before the message does.
+        Short = 110: "the bytes end before the message does",
+        /// Bytes follow the message.
+        Trailing = 111: "bytes follow the message",
+        /// The tag is not that of a block, a certificate or a vote.
+        Tag = 112: "the tag is not that of a block, a certificate or a vote",
+        /// The version of the body is not 1.
+        Version = 113: "the version of the body is not 1",
+        /// The block has more than 100 parents.
+        ManyParents = 114: "the block has more than 100 parents",
+        /// The authors of the parents are not strictly ascending.
+        ParentOrder = 115: "the authors of the parents are not strictly ascending",
+        /// The block has more than 1,024 transactions.
+        ManyTransactions = 116: "the block has more than 1,024 transactions",
+        /// A transaction has more than 65,536 bytes.
+        LongTransaction = 117: "a transaction has more than 65,536 bytes",
+        /// The body has more than 1,048,576 bytes.
+        LongBody = 118: "the body has more than 1,048,576 bytes",
+        /// The certificate has more than 100 votes.
+        ManyVotes = 119: "the certificate has more than 100 votes",
+        /// The signers of the votes are not strictly ascending.
+        VoteOrder = 120: "the signers of the votes are not strictly ascending",
+    }
 
-/// The first rule that a block breaks.
-#[derive(Clone, Copy, Debug, PartialEq, Eq)]
-#[non_exhaustive]
-pub enum BlockFault {
-    /// The author is not a member.
-    Author,
-    /// The author of a parent is not a member.
-    ParentAuthor,
-    /// The block is of round 0 and has parents.
-    GenesisParents,
-    /// The authors of the parents do not reach the quorum.
-    FewParents,
-    /// The author's signature does not verify.
-    Signature,
+    /// The first rule that a block breaks.
+    BlockFault {
+        /// The author is not a member.
+        Author = 130: "the block's author is not a member",
+        /// The author of a parent is not a member.
+        ParentAuthor = 131: "the author of a parent is not a member",
+        /// The block is of round 0 and has parents.
+        GenesisParents = 132: "a block of round 0 has parents",
+        /// The authors of the parents do not reach the quorum.
+        FewParents = 133: "the block's parents do not reach the quorum",
+        /// The author's signature does not verify.
+        Signature = 134: "the block's signature does not verify",
+    }
+
+    /// The first rule that a certificate breaks.
+    CertificateFault {
+        /// The author of the certified block is not a member.
+        Author = 140: "the author of the certified block is not a member",
+        /// A signer is not a member.
+        Signer = 141: "a signer is not a member",
+        /// The signers do not reach the quorum.
+        FewVotes = 142: "the signers do not reach the quorum",
+        /// The signature of a vote does not verify.
+        Signature {
+            /// The first signer whose signature does not verify.
+            signer: u16
+        } = 143: "the signature of member {signer} does not verify",
+    }
 }
-
-error_texts!(BlockFault {
-    BlockFault::Author => "the block's author is not a member",
-    BlockFault::ParentAuthor => "the author of a parent is not a member",
-    BlockFault::GenesisParents => "a block of round 0 has parents",
-    BlockFault::FewParents => "the block's parents do not reach the quorum",
-    BlockFault::Signature => "the block's signature does not verify",
-});
-
-/// The first rule that a certificate breaks.
-#[derive(Clone, Copy, Debug, PartialEq, Eq)]
-#[non_exhaustive]
-pub enum CertificateFault {
-    /// The author of the certified block is not a member.
-    Author,
-    /// A signer is not a member.
-    Signer,
-    /// The signers do not reach the quorum.
-    FewVotes,
-    /// The signature of a vote does not verify.
-    Signature {
-        /// The first signer whose signature does not verify.
-        signer: u16,
-    },
-}
-
-error_texts!(CertificateFault {
-    CertificateFault::Author => "the author of the certified block is not a member",
-    CertificateFault::Signer => "a signer is not a member",
-    CertificateFault::FewVotes => "the signers do not reach the quorum",
-    CertificateFault::Signature { signer } => "the signature of member {signer} does not verify",
-});
 
 impl fmt::Display for CheckError {
     fn fmt(&self, f: &mut fmt::Formatter<'_>) -> fmt::Result {
@@ -137,31 +129,30 @@ impl Error for CheckError {
 from_codes!(CheckError {});
 
 impl CheckError {
-    /// Decodes a fault. The numbers are the kinds of faults in `nw.h`.
+    /// Decodes a fault.
     pub(crate) fn of(raw: &RawMessage) -> CheckError {
-        use CheckError::{Block as block, Certificate as certificate, Text as text};
-        match raw.kind {
-            110 => text(TextFault::Short),
-            111 => text(TextFault::Trailing),
-            112 => text(TextFault::Tag),
-            113 => text(TextFault::Version),
-            114 => text(TextFault::ManyParents),
-            115 => text(TextFault::ParentOrder),
-            116 => text(TextFault::ManyTransactions),
-            117 => text(TextFault::LongTransaction),
-            118 => text(TextFault::LongBody),
-            119 => text(TextFault::ManyVotes),
-            120 => text(TextFault::VoteOrder),
-            130 => block(BlockFault::Author),
-            131 => block(BlockFault::ParentAuthor),
-            132 => block(BlockFault::GenesisParents),
-            133 => block(BlockFault::FewParents),
-            134 => block(BlockFault::Signature),
-            140 => certificate(CertificateFault::Author),
-            141 => certificate(CertificateFault::Signer),
-            142 => certificate(CertificateFault::FewVotes),
-            143 => certificate(CertificateFault::Signature { signer: raw.signer }),
-            other => unexpected_kind(other),
-        }
+        let text = TextFault::of(raw).map(CheckError::Text);
+        let block = || BlockFault::of(raw).map(CheckError::Block);
+        let certificate = || CertificateFault::of(raw).map(CheckError::Certificate);
+        let fault = text.or_else(block).or_else(certificate);
+        fault.unwrap_or_else(|| unexpected_kind(raw.kind))
+    }
+}
+
+#[cfg(test)]
+mod tests {
+    use super::{BlockFault, CertificateFault, CheckError, TextFault};
+    use std::error::Error;
+
+    #[test]
+    fn the_source_of_a_check_error_is_its_fault() {
+        let source = |error: CheckError| error.source().map(|fault| fault.to_string());
+        let (text, block) = (TextFault::Tag, BlockFault::FewParents);
+        let certificate = CertificateFault::Signature { signer: 7 };
+        assert_eq!(source(CheckError::Text(text)), Some(text.to_string()));
+        assert_eq!(source(CheckError::Block(block)), Some(block.to_string()));
+        let told = source(CheckError::Certificate(certificate)).unwrap();
+        assert_eq!(told, "the signature of member 7 does not verify");
+        assert_eq!(source(CheckError::NoMemory), None);
     }
 }

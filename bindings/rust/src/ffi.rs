@@ -4,16 +4,17 @@
 #![allow(unsafe_code)]
 
 mod allocator;
+mod users;
 
 use crate::code::{Code, find};
-use crate::raw::{RawAuthorLook, RawEvent, RawLook, RawMessage, RawParent, RawTagged};
+use crate::raw::{Empty, RawAuthorLook, RawEvent, RawLook, RawMessage, RawParent, RawTagged};
 use crate::{Digest, Limits, Member, Signature, Status, Subject};
 #[cfg(target_os = "linux")]
 use std::arch::global_asm;
 use std::ffi::c_void;
 use std::mem::{self, MaybeUninit};
-use std::sync::atomic::{AtomicPtr, Ordering};
 use std::{ptr, slice};
+use users::User;
 
 /// A handle of the library: one pointer, which is null while the handle is closed. Dropping it
 /// closes it.
@@ -25,8 +26,10 @@ pub(crate) struct Handle(*mut c_void);
 
 // SAFETY: any thread may use and free a handle, as long as there is one call at a time on it. The
 // library proves that the content of each kind of handle is `Send`. Every function takes `&mut
-// Handle`, and `Handle` is not `Sync`, so calls on one handle never overlap.
+// Handle`, so calls on one handle never overlap.
 unsafe impl Send for Handle {}
+// SAFETY: every function takes `&mut Handle`, so threads that share a handle make no call on it.
+unsafe impl Sync for Handle {}
 
 impl Handle {
     /// A closed handle.
@@ -42,10 +45,9 @@ impl Handle {
 
     /// New room for an answer.
     pub(crate) fn answer() -> Result<Handle, Code> {
-        Handle::opened(|out| nw_answer_new(out))
+        Handle::opened(nw_answer_new)
     }
 
-    #[inline]
     pub(crate) fn is_closed(&self) -> bool {
         self.0.is_null()
     }
@@ -60,37 +62,9 @@ impl Drop for Handle {
     #[inline]
     fn drop(&mut self) {
         if !self.0.is_null() {
+            let _user = User::of(self);
             nw_free(self);
         }
-    }
-}
-
-/// A place for one unused handle, which threads share.
-pub(crate) struct Spare(AtomicPtr<c_void>);
-
-impl Spare {
-    /// A place without a handle.
-    pub(crate) const fn new() -> Spare {
-        Spare(AtomicPtr::new(ptr::null_mut()))
-    }
-
-    /// The handle that is there, or a closed one.
-    #[inline]
-    pub(crate) fn take(&self) -> Handle {
-        Handle(self.0.swap(ptr::null_mut(), Ordering::AcqRel))
-    }
-
-    /// Puts a handle there. If there was one already, that one is closed.
-    #[inline]
-    pub(crate) fn put(&self, mut handle: Handle) {
-        let at = mem::replace(&mut handle.0, ptr::null_mut());
-        drop(Handle(self.0.swap(at, Ordering::AcqRel)));
-    }
-}
-
-impl Drop for Spare {
-    fn drop(&mut self) {
-        drop(self.take());
     }
 }
 
@@ -106,78 +80,88 @@ global_asm!(".hidden nw_interface_7");
 /// A handle, lent to a call.
 type At<'a> = &'a mut Handle;
 
-/// The exports that take only references and numbers, and return a code.
+/// The exports that take handles first, and then only references and numbers, and return a code.
 macro_rules! exports {
-    ($($export:ident($($argument:ident: $type:ty),+);)+) => {
-        // SAFETY: the names and types are those of nw.h. These functions are safe: the library
-        // returns a code for all values of the arguments, and keeps no reference after the call.
-        unsafe extern "C" {
-            $(pub(crate) safe fn $export($($argument: $type),+) -> Code;)+
+    ($($export:ident($($handle:ident),+ $(; $($argument:ident: $type:ty),+)?);)+) => {
+        mod exports {
+            use super::*;
+
+            // SAFETY: the names and types are those of nw.h. These functions are safe: the library
+            // returns a code for all values of the arguments, and keeps no reference after the call.
+            unsafe extern "C" {
+                $(pub(super) safe fn $export($($handle: At,)+ $($($argument: $type),+)?) -> Code;)+
+            }
         }
+
+        $(#[inline]
+        pub(crate) fn $export($($handle: At,)+ $($($argument: $type),+)?) -> Code {
+            let _users = [$(User::of($handle)),+];
+            exports::$export($($handle,)+ $($($argument),+)?)
+        })+
     };
 }
 
 exports! {
-    nw_committee_share(committee: At, out: At);
-    nw_committee_quorum(committee: At, out: &mut u32);
-    nw_text_of_vote(subject: &Subject, out: &mut [u8; 44]);
+    nw_committee_share(committee, out);
+    nw_committee_quorum(committee; out: &mut u32);
 
-    nw_block_subject(block: At, out: &mut Subject);
-    nw_block_counts(block: At, parents: &mut usize, transactions: &mut usize);
-    nw_block_parent(block: At, index: usize, out: &mut RawParent);
-    nw_checked_kind(checked: At, out: &mut RawMessage);
-    nw_checked_block(checked: At, out: At);
-    nw_checked_signer(checked: At, index: usize, out: &mut u16);
+    nw_block_subject(block; out: &mut Subject);
+    nw_block_counts(block; parents: &mut usize, transactions: &mut usize);
+    nw_block_parent(block; index: usize, out: &mut RawParent);
+    nw_checked_kind(checked; out: &mut RawMessage);
+    nw_checked_block(checked, out);
+    nw_checked_signer(checked; index: usize, out: &mut u16);
 
-    nw_gather_new(committee: At, subject: &Subject, out: At);
-    nw_gather_add(gather: At, vote: At, quorum: &mut bool);
-    nw_gather_certificate(gather: At, out: At);
+    nw_gather_new(committee; subject: &Subject, out: At);
+    nw_gather_add(gather, vote; quorum: &mut bool);
+    nw_gather_certificate(gather, out);
 
-    nw_store_new(committee: At, limits: &Limits, out: At);
-    nw_store_session(store: At, out: At);
-    nw_store_compact(store: At);
+    nw_store_new(committee; limits: &Limits, out: At);
+    nw_store_session(store, out);
+    nw_store_compact(store);
 
-    nw_session_id(session: At, out: &mut u16);
-    nw_session_run(session: At, out: &mut u64);
-    nw_session_look(session: At, round: u64, author: u16, out: &mut RawLook);
-    nw_session_hand_in(session: At, checked: At, answer: At);
-    nw_session_certificate(session: At, digest: &Digest, answer: At);
-    nw_session_read(session: At, digest: &Digest, answer: At);
-    nw_session_open(session: At, digest: &Digest, answer: At);
-    nw_session_collect(session: At, round: u64, answer: At);
-    nw_session_missing(session: At, most: u16, answer: At);
-    nw_session_missing_of(session: At, digest: &Digest, answer: At);
-    nw_session_status(session: At, answer: At);
-    nw_session_note(session: At, answer: At);
-    nw_session_hear(session: At, note: At);
-    nw_session_restart(session: At, answer: At);
-    nw_session_renew(session: At);
+    nw_session_id(session; out: &mut u16);
+    nw_session_run(session; out: &mut u64);
+    nw_session_look(session; round: u64, author: u16, out: &mut RawLook);
+    nw_session_hand_in(session, checked, answer);
+    nw_session_certificate(session; digest: &Digest, answer: At);
+    nw_session_read(session; digest: &Digest, answer: At);
+    nw_session_open(session; digest: &Digest, answer: At);
+    nw_session_collect(session; round: u64, answer: At);
+    nw_session_missing(session; most: u16, answer: At);
+    nw_session_missing_of(session; digest: &Digest, answer: At);
+    nw_session_status(session, answer);
+    nw_session_note(session, answer);
+    nw_session_hear(session, note);
+    nw_session_restart(session, answer);
+    nw_session_renew(session);
 
-    nw_settlement_new(out: At);
-    nw_settlement_give(settlement: At, session: At);
-    nw_settle(settlement: At, answer: At);
-    nw_settlement_take(settlement: At, out: At);
+    nw_settlement_new(out);
+    nw_settlement_give(settlement, session);
+    nw_settle(settlement, answer);
+    nw_settlement_take(settlement, out);
 
-    nw_answer_new(out: At);
-    nw_answer_reply(answer: At, out: &mut RawTagged);
-    nw_answer_status(answer: At, out: &mut Status);
-    nw_answer_block(answer: At, out: At);
-    nw_answer_missing(answer: At, index: usize, out: &mut Subject);
-    nw_answer_events(answer: At, out: &mut usize);
-    nw_answer_event(answer: At, index: usize, out: &mut RawEvent);
-    nw_answer_is_prefix(answer: At, other: At, out: &mut bool);
+    nw_answer_new(out);
+    nw_answer_reply(answer; out: &mut RawTagged);
+    nw_answer_status(answer; out: &mut Status);
+    nw_answer_block(answer, out);
+    nw_answer_missing(answer; index: usize, out: &mut Subject);
+    nw_answer_events(answer; out: &mut usize);
+    nw_answer_event(answer; index: usize, out: &mut RawEvent);
+    nw_answer_is_prefix(answer, other; out: &mut bool);
 
-    nw_ticket_scope(ticket: At, digest: &mut Digest, floor: &mut u64);
-    nw_ticket_walk(ticket: At, out: At);
-    nw_ticket_agree(ticket: At, other: At, same: &mut bool);
-    nw_list_len(list: At, out: &mut usize);
-    nw_list_block(list: At, index: usize, out: At);
+    nw_ticket_scope(ticket; digest: &mut Digest, garbage_round: &mut u64);
+    nw_ticket_walk(ticket, out);
+    nw_ticket_agree(ticket, other; same: &mut bool);
+    nw_list_len(list; out: &mut usize);
+    nw_list_block(list; index: usize, out: At);
 }
 
 // SAFETY: the names and types are those of nw.h. A `safe fn` takes references only. The others take
 // a pointer with a length.
 unsafe extern "C" {
     pub(crate) safe fn nw_text_of_block(digest: &Digest, out: &mut [u8; 36]);
+    pub(crate) safe fn nw_text_of_vote(subject: &Subject, out: &mut [u8; 44]) -> Code;
     safe fn nw_free(handle: &mut Handle);
     safe fn nw_interface_7() -> i32;
     fn nw_committee_new(members: *const Member, members_len: usize, out: &mut Handle) -> Code;
@@ -211,31 +195,52 @@ unsafe extern "C" {
         lengths_len: usize,
         needed: &mut usize,
     ) -> Code;
+    fn nw_vote_message(
+        subject: &Subject,
+        signer: u16,
+        signature: &Signature,
+        buffer: *mut u8,
+        buffer_len: usize,
+        needed: &mut usize,
+    ) -> Code;
 }
 
-/// The exports that write bytes into a buffer. `needed` gets the number of bytes.
+/// The exports that take a handle first, and write bytes into a buffer. `needed` gets the number of
+/// bytes.
 macro_rules! buffers {
-    ($($export:ident as $name:ident($($argument:ident: $type:ty),+);)+) => {
+    ($($export:ident as $name:ident($handle:ident $(, $argument:ident: $type:ty)?);)+) => {
         // SAFETY: as above. The buffer is a pointer with a length.
         unsafe extern "C" {
             $(fn $export(
-                $($argument: $type,)+ buffer: *mut u8, buffer_len: usize, needed: &mut usize,
+                $handle: At, $($argument: $type,)? buffer: *mut u8, buffer_len: usize, needed: &mut usize,
             ) -> Code;)+
         }
 
-        $(pub(crate) fn $name($($argument: $type),+) -> Result<Vec<u8>, Code> {
+        $(pub(crate) fn $name($handle: At $(, $argument: $type)?) -> Result<Vec<u8>, Code> {
+            let _user = User::of($handle);
             // SAFETY: the pointer and the length are those of one buffer, which may be written to.
-            written(|buffer, len, needed| unsafe { $export($($argument,)+ buffer, len, needed) })
+            written(|at, len, needed| unsafe { $export($handle, $($argument,)? at, len, needed) })
         })+
     };
 }
 
 buffers! {
-    nw_block_body as block_body(block: &mut Handle);
-    nw_block_message as block_message(block: &mut Handle, signature: &Signature);
-    nw_vote_message as vote_message(subject: &Subject, signer: u16, signature: &Signature);
-    nw_checked_message as checked_message(checked: &mut Handle);
-    nw_answer_message as answer_message(answer: &mut Handle);
+    nw_block_body as block_body(block);
+    nw_block_message as block_message(block, signature: &Signature);
+    nw_checked_message as checked_message(checked);
+    nw_answer_message as answer_message(answer);
+}
+
+/// The message of a vote.
+pub(crate) fn vote_message(
+    subject: &Subject,
+    signer: u16,
+    signature: &Signature,
+) -> Result<Vec<u8>, Code> {
+    written(|buffer, len, needed| {
+        // SAFETY: the pointer and the length are those of one buffer, which may be written to.
+        unsafe { nw_vote_message(subject, signer, signature, buffer, len, needed) }
+    })
 }
 
 /// The bytes that a call writes, at first into a buffer on the stack. If that is too small, the
@@ -259,18 +264,9 @@ fn written(mut call: impl FnMut(*mut u8, usize, &mut usize) -> Code) -> Result<V
     Ok(bytes)
 }
 
-/// The size of the message of a checked block, certificate or vote. Nothing is encoded.
-pub(crate) fn checked_message_size(checked: &mut Handle) -> usize {
-    let mut needed = 0;
-    // SAFETY: a buffer of length 0 may be null.
-    match unsafe { nw_checked_message(checked, ptr::null_mut(), 0, &mut needed) } {
-        Code::SMALL => needed,
-        other => other.unexpected(),
-    }
-}
-
 /// All transactions of a block, one after another. `lengths` has a place for the length of each.
 pub(crate) fn block_transactions(block: &mut Handle, lengths: &mut [u32]) -> Result<Vec<u8>, Code> {
+    let _user = User::of(block);
     let (places, count) = (lengths.as_mut_ptr(), lengths.len());
     written(|buffer, len, needed| {
         // SAFETY: each pointer has the length of its buffer, which may be written to.
@@ -285,6 +281,7 @@ pub(crate) fn session_look_round(
     looks: &mut [RawAuthorLook],
     found: &mut usize,
 ) -> Code {
+    let _user = User::of(session);
     let (places, count) = (looks.as_mut_ptr(), looks.len());
     // SAFETY: the pointer and the length are those of one buffer, which may be written to.
     unsafe { nw_session_look_round(session, round, places, count, found) }
@@ -299,7 +296,7 @@ pub(crate) fn committee_new(members: &[Member]) -> Result<Handle, Code> {
 
 /// The SHA-256 digest of the bytes.
 pub(crate) fn digest_of(bytes: &[u8]) -> Digest {
-    let mut digest = Digest::ZERO;
+    let mut digest = Digest::EMPTY;
     // SAFETY: the pointer and the length are those of one slice.
     unsafe { nw_digest_of(bytes.as_ptr(), bytes.len(), &mut digest) };
     digest
@@ -309,13 +306,12 @@ pub(crate) fn digest_of(bytes: &[u8]) -> Digest {
 #[inline]
 pub(crate) fn peek(text: &[u8]) -> Option<RawMessage> {
     // SAFETY: the pointer and the length are those of one slice.
-    find(RawMessage::EMPTY, |out| unsafe {
-        nw_peek(text.as_ptr(), text.len(), out)
-    })
+    find(|out| unsafe { nw_peek(text.as_ptr(), text.len(), out) })
 }
 
 /// Decodes and checks a text.
 pub(crate) fn check(committee: &mut Handle, text: &[u8]) -> Result<Handle, Code> {
+    let _user = User::of(committee);
     // SAFETY: the pointer and the length are those of one slice.
     Handle::opened(|out| unsafe { nw_check(committee, text.as_ptr(), text.len(), out) })
 }
@@ -348,11 +344,8 @@ pub(crate) fn block_new(
 
 #[cfg(test)]
 mod tests {
-    use super::{Handle, Spare, written};
+    use super::written;
     use crate::code::Code;
-    use std::sync::Barrier;
-    use std::sync::atomic::{AtomicBool, Ordering};
-    use std::{hint, mem, thread};
 
     /// Writes 7s into the whole buffer if it has `size` bytes.
     fn sevens(size: usize) -> Result<Vec<u8>, Code> {
@@ -374,43 +367,5 @@ mod tests {
         for size in [0, 1, 4096, 4097, 100_000] {
             assert_eq!(sevens(size), Ok(vec![7; size]));
         }
-    }
-
-    #[test]
-    fn a_spare_handle_is_taken_by_one_thread() {
-        let (spare, is_taken) = (Spare::new(), AtomicBool::new(false));
-        let (start, is_wrong) = (Barrier::new(4), AtomicBool::new(false));
-        spare.put(Handle::answer().unwrap());
-        let take = || {
-            start.wait();
-            let mut taken = 0;
-            // The bound ends the test if the handle gets lost.
-            for _ in 0..40_000_000 {
-                if taken == 200_000 {
-                    break;
-                }
-                let handle = spare.take();
-                if handle.is_closed() {
-                    continue;
-                }
-                taken += 1;
-                if is_taken.swap(true, Ordering::AcqRel) {
-                    is_wrong.store(true, Ordering::Release);
-                    mem::forget(handle); // The other thread frees it.
-                    return;
-                }
-                (0..20).for_each(|_| hint::spin_loop());
-                is_taken.store(false, Ordering::Release);
-                spare.put(handle);
-            }
-        };
-        thread::scope(|scope| {
-            for _ in 0..4 {
-                scope.spawn(take);
-            }
-        });
-        let is_wrong = is_wrong.into_inner();
-        assert!(!is_wrong, "two threads took one handle");
-        assert!(!spare.take().is_closed(), "the handle got lost");
     }
 }

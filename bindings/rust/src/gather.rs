@@ -14,10 +14,10 @@ use crate::{CheckedCertificate, CheckedVote, Committee, Subject};
 /// # mod data { include!(concat!(env!("CARGO_MANIFEST_DIR"), "/examples/data/mod.rs")); }
 /// # use narwhal_store::{CheckedVote, GatherError, Subject};
 /// # let (keys, messages) = (data::keys(), data::values("vote"));
-/// use narwhal_store::{Checked, Committee, Gather, Message};
+/// use narwhal_store::{Checked, Committee, Gather};
 ///
 /// let committee = Committee::equal(&keys)?;
-/// let votes = messages.iter().map(|message| Message::check(&committee, message));
+/// let votes = messages.iter().map(|message| committee.check(message));
 /// # let votes: Result<Vec<_>, _> = votes.collect();
 /// # let votes = votes?.into_iter().map(|checked| match checked {
 /// #     Checked::Vote(vote) => vote,
@@ -33,7 +33,7 @@ use crate::{CheckedCertificate, CheckedVote, Committee, Subject};
 /// assert!(gather.add(&votes[2])?);
 ///
 /// let certificate = gather.certificate()?;
-/// let received = Message::check(&committee, &certificate.message())?;
+/// let received = committee.check(&certificate.message())?;
 /// assert!(matches!(received, Checked::Certificate(received) if received.subject() == subject));
 /// # Ok::<(), Box<dyn std::error::Error>>(())
 /// ```
@@ -80,7 +80,7 @@ impl Gather {
     /// - [`GatherError::NoMemory`] if the library could not allocate memory.
     pub fn add(&mut self, vote: &CheckedVote) -> Result<bool, GatherError> {
         let mut quorum = false;
-        ffi::nw_gather_add(&mut self.handle, &mut vote.handle.lock(), &mut quorum).done()?;
+        ffi::nw_gather_add(&mut self.handle, &mut vote.text.handle.lock(), &mut quorum).done()?;
         Ok(quorum)
     }
 
@@ -98,7 +98,7 @@ impl Gather {
 debug_by!(Gather: subject);
 
 /// Why a vote is not counted, or why there is no certificate.
-#[derive(Clone, Copy, Debug, PartialEq, Eq)]
+#[derive(Clone, Copy, Debug, PartialEq, Eq, Hash)]
 #[non_exhaustive]
 pub enum GatherError {
     /// The author of the subject, or the signer of the vote, is not a member.

@@ -3,14 +3,11 @@
 use crate::Event;
 use crate::code::{find, read};
 use crate::debug::debug_by;
-use crate::ffi;
+use crate::ffi::{self, Handle};
 use crate::indexed::iterate_by_index;
-use crate::lock::Lock;
-use crate::raw::RawEvent;
-use crate::room::Room;
+use crate::lock::{Guard, Lock};
 use std::ops::Range;
 use std::ptr;
-use std::sync::MutexGuard;
 
 /// The history that explains an answer: the events of the run up to the answered call, which is
 /// the last event. The history of a [`Note`](crate::Note) has the events up to the note.
@@ -39,34 +36,26 @@ use std::sync::MutexGuard;
 /// assert!(!second.history().is_prefix_of(first.history()));
 /// # Ok::<(), Box<dyn std::error::Error>>(())
 /// ```
-pub struct History {
+pub struct History(
     /// Only the threads that share a note wait for each other here.
-    room: Lock<Room>,
-}
+    Lock<Handle>,
+);
 
 impl History {
-    pub(crate) fn new(room: Room) -> History {
-        History {
-            room: Lock::new(room),
-        }
+    pub(crate) fn new(handle: Handle) -> History {
+        History(Lock::of(handle))
     }
 
     /// What has the history in the library, for one call.
     #[inline]
-    pub(crate) fn room(&self) -> MutexGuard<'_, Room> {
-        self.room.lock()
-    }
-
-    /// The room, for good.
-    #[inline]
-    pub(crate) fn into_room(self) -> Room {
-        self.room.into_inner()
+    pub(crate) fn handle(&self) -> Guard<'_, Handle> {
+        self.0.lock()
     }
 
     /// Returns the number of events. The history of an answer has at least 1.
     #[must_use]
     pub fn len(&self) -> usize {
-        read(0, |out| ffi::nw_answer_events(&mut self.room(), out))
+        read(|out| ffi::nw_answer_events(&mut self.handle(), out))
     }
 
     /// Returns whether there are no events. This is `false` for the history of an answer.
@@ -78,10 +67,7 @@ impl History {
     /// Returns the event at the index, counted from 0, or `None` past the last one.
     #[must_use]
     pub fn event(&self, index: usize) -> Option<Event> {
-        let raw = find(RawEvent::EMPTY, |out| {
-            ffi::nw_answer_event(&mut self.room(), index, out)
-        });
-        raw.as_ref().map(Event::of)
+        find(|out| ffi::nw_answer_event(&mut self.handle(), index, out)).map(Event::of)
     }
 
     /// Returns an iterator over the events, from the first.
@@ -106,37 +92,26 @@ impl History {
             return true;
         }
         let (mut this, mut other) = both(self, other);
-        read(false, |out| {
-            ffi::nw_answer_is_prefix(&mut this, &mut other, out)
-        })
+        read(|out| ffi::nw_answer_is_prefix(&mut this, &mut other, out))
     }
 }
 
-/// The rooms of two histories. They are locked in the order of their places, so that two threads
+/// The handles of two histories. They are locked in the order of their places, so that two threads
 /// that compare the same notes do not wait for each other for ever.
 pub(crate) fn both<'a>(
     one: &'a History,
     other: &'a History,
-) -> (MutexGuard<'a, Room>, MutexGuard<'a, Room>) {
+) -> (Guard<'a, Handle>, Guard<'a, Handle>) {
     if ptr::from_ref(one) < ptr::from_ref(other) {
-        let one = one.room();
-        (one, other.room())
+        let one = one.handle();
+        (one, other.handle())
     } else {
-        let other = other.room();
-        (one.room(), other)
+        let other = other.handle();
+        (one.handle(), other)
     }
 }
 
 debug_by!(History: len);
-
-impl<'a> IntoIterator for &'a History {
-    type Item = Event;
-    type IntoIter = Events<'a>;
-
-    fn into_iter(self) -> Events<'a> {
-        self.events()
-    }
-}
 
 /// The events of a history. [`History::events`] returns it.
 #[derive(Clone, Debug)]

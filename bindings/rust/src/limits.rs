@@ -15,7 +15,7 @@ use crate::{Committee, Store};
 /// let limits = Limits { window: 64, ..Limits::default() };
 /// assert_eq!(limits.blocks, 65_536);
 /// ```
-#[derive(Clone, Copy, Debug, PartialEq, Eq)]
+#[derive(Clone, Copy, Debug, PartialEq, Eq, Hash)]
 #[repr(C)]
 pub struct Limits {
     /// The most blocks that the store holds, and the most certificates: 1 to 65,536.
@@ -27,13 +27,13 @@ pub struct Limits {
     pub events: u32,
     /// How many rounds the store accepts, from the garbage round on: 1 to 4,096.
     pub window: u32,
-    /// The most sessions that the store makes, including dropped ones: 1 to 256.
+    /// The most sessions that the store has at one time: 1 to 256.
     pub sessions: u32,
 }
 
 impl Limits {
     /// The bytes of the largest body that a check accepts.
-    const MOST_BODY: u64 = 1 << 20;
+    pub(crate) const MOST_BODY: usize = 1 << 20;
     /// The bytes around the body of a stored block, with those of its certificate's entry.
     const AROUND_BLOCK: u64 = 1_000;
     /// The bytes of a block's missing parents: it has at most 100.
@@ -73,7 +73,7 @@ impl Limits {
     pub fn within(committee: &Committee, body: u64, bytes: u64) -> Option<Limits> {
         let (members, faulty) = (committee.size() as u64, committee.most_faulty());
         let certificate = 43 + 66 * members;
-        let body = body.min(Limits::MOST_BODY);
+        let body = body.min(Limits::MOST_BODY as u64);
         let blocks = (members + faulty) * (body + Limits::AROUND_BLOCK);
         let round = 3 * (blocks + members * certificate) + faulty * Limits::UNMET_PARENTS;
         let window = bytes.saturating_sub(Store::HISTORY_BYTES) / round;
@@ -92,14 +92,15 @@ impl Limits {
 }
 
 impl Default for Limits {
-    /// Returns 65,536 blocks, 65,536 events, a window of 512 rounds and 16 sessions.
+    /// Returns 65,536 blocks, 65,536 events, a window of 480 rounds and 16 sessions.
     ///
-    /// Each member can make the store keep one block per round of the window without any votes.
-    /// With 512 rounds, these are at most 51,200 blocks from the 100 members of the largest
-    /// committee. So nobody can fill the store this way.
+    /// Each member can make the store keep one block per round of the window without any votes,
+    /// and a faulty one a second block with a certificate. In 480 rounds, the 100 members of the
+    /// largest committee, 33 of them faulty, have at most 63,840 blocks. So nobody can fill the
+    /// store this way.
     fn default() -> Limits {
         Limits {
-            window: 512,
+            window: 480,
             sessions: 16,
             ..Limits::MAX
         }

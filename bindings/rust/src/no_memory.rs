@@ -1,39 +1,41 @@
 //! Tests that fail each allocation of the library in turn, and tests that count what is not freed.
 
-use crate::ffi::{Handle, Spare};
-use crate::room::Room;
+use crate::ffi::Handle;
+use crate::lock::{Rank, tests::is_held};
+use crate::raw::Empty;
 use crate::settled::Given;
 use crate::{
     AgreeError, Block, BlockError, Causal, CheckError, Checked, CheckedBlock, CheckedCertificate,
-    CheckedVote, Committee, CommitteeError, Digest, Gather, GatherError, History, Limits, Message,
-    NoMemory, OpenError, Reply, Session, SettleError, Status, StepError, Store, Subject, Ticket,
-    check_all,
+    CheckedVote, Committee, CommitteeError, Digest, Gather, GatherError, History, Limits, NoMemory,
+    OpenError, Reply, Session, SettleError, Status, StepError, Store, Subject, Ticket,
 };
+use lab::Com;
 use std::cell::Cell;
 use std::ffi::c_void;
 use std::fmt::Debug;
 use std::panic::{AssertUnwindSafe, catch_unwind};
 use std::ptr;
-use std::sync::Arc;
 
 #[path = "../examples/data/mod.rs"]
 pub(crate) mod data;
+#[path = "../tests/lab/mod.rs"]
+mod lab;
 
 thread_local! {
     /// The allocation of this thread that fails: 1 is the next one, and 0 is none.
     static FAILS: Cell<usize> = const { Cell::new(0) };
-    /// The allocations of this thread, without those that it freed.
+    /// The bytes that this thread allocated, without those that it freed.
     static LIVE: Cell<isize> = const { Cell::new(0) };
+    /// The bytes that this thread freed in its turns. Only a debug build counts them.
+    static FREED_IN_TURN: Cell<isize> = const { Cell::new(0) };
 }
 
-/// Counts an allocation, if it succeeded.
-pub(crate) fn note_allocated(is_there: bool) {
-    LIVE.set(LIVE.get() + isize::from(is_there));
-}
-
-/// Counts a freed allocation.
-pub(crate) fn note_freed() {
-    LIVE.set(LIVE.get() - 1);
+/// Counts bytes that were allocated, or fewer than none that were freed.
+pub(crate) fn note(bytes: isize) {
+    LIVE.set(LIVE.get() + bytes);
+    if bytes < 0 && is_held(Rank::Turn) {
+        FREED_IN_TURN.set(FREED_IN_TURN.get() - bytes);
+    }
 }
 
 /// An allocator of which the chosen allocation fails.
@@ -69,7 +71,7 @@ impl World {
         let store = Store::new(&committee, Limits::default()).unwrap();
         let mut session = store.session().unwrap();
         let (mut blocks, mut certificates) = (Vec::new(), Vec::new());
-        for checked in check_all(&committee, &data::values("message"), 1) {
+        for checked in committee.check_all(&data::values("message"), 1) {
             match checked.unwrap() {
                 Checked::Block(block) => blocks.push(block),
                 Checked::Certificate(certificate) => certificates.push(certificate),
@@ -83,7 +85,7 @@ impl World {
         certificates.iter().for_each(|one| drop(certify(one)));
         let leader = certificates.last().unwrap().subject().digest;
         let mut ticket = || session.causal(&leader).unwrap().into_ticket().unwrap();
-        let votes = check_all(&committee, &data::values("vote"), 1).into_iter();
+        let votes = committee.check_all(&data::values("vote"), 1).into_iter();
         let vote = |checked| match checked {
             Ok(Checked::Vote(vote)) => vote,
             other => panic!("{other:?}"),
@@ -145,9 +147,7 @@ fn committees_and_stores() {
     fail_each(OpenError::NoMemory, |world| {
         world.store.session().map(|session| session.id())
     });
-    fail_each(StepError::NoMemory, |world| {
-        world.session.restart().map(drop)
-    });
+    fail_each(NoMemory, |world| world.session.restart().map(drop));
 }
 
 #[test]
@@ -155,10 +155,16 @@ fn checks() {
     for message in [0, 1] {
         let message = data::values("message").remove(message);
         fail_each(CheckError::NoMemory, |world| {
-            let checked = Message::check(&world.committee, &message)?;
+            let checked = world.committee.check(&message)?;
             Ok(format!("{checked:?}"))
         });
     }
+    // Without memory for a handle of the committee, nothing is checked.
+    let (world, messages) = (World::new(), data::values("message"));
+    FAILS.set(1);
+    let all = world.committee.check_all(&messages, 1);
+    assert_eq!(FAILS.replace(0), 0);
+    assert_eq!(all, vec![Err(CheckError::NoMemory); messages.len()]);
     fail_each(BlockError::NoMemory, |_| {
         Block::new(0, 1, &[(0, Digest([1; 32]))], &["x"]).map(drop)
     });
@@ -203,7 +209,7 @@ fn other_steps() {
 
 #[test]
 fn notes() {
-    fail_each(StepError::NoMemory, |world| world.session.note().map(drop));
+    fail_each(NoMemory, |world| world.session.note().map(drop));
 }
 
 /// The call takes its session into the new run first.
@@ -222,7 +228,7 @@ fn calls_after_a_restart_of_another_session() {
         if let Err(error) = outcome {
             assert_eq!(error, StepError::NoMemory);
             assert_eq!(world.store.events(), 0);
-            drop(world.session.status().unwrap());
+            let _ = world.session.status().unwrap();
         }
         assert_eq!(world.store.events(), 1);
     }
@@ -238,7 +244,7 @@ fn settlements() {
             mut other,
             ..
         } = World::new();
-        drop(other.status().unwrap());
+        let _ = other.status().unwrap();
         let mut sessions = [session, other];
         FAILS.set(number);
         let mut given = Given::new(&mut sessions).map_err(SettleError::from);
@@ -265,6 +271,22 @@ fn settlements() {
             return;
         }
     }
+}
+
+/// Another session ends the run between the settlement's look at it and its end.
+#[test]
+fn a_run_that_ended_does_not_settle() {
+    let World {
+        session, mut other, ..
+    } = World::new();
+    let mut sessions = [session];
+    let mut given = Given::new(&mut sessions).unwrap();
+    drop(other.restart().unwrap());
+    assert_eq!(given.settle().err(), Some(SettleError::Ended));
+    drop(given);
+    let [session] = sessions;
+    let settled = Store::settle(vec![session, other]).unwrap();
+    assert!(settled.history().is_empty());
 }
 
 /// A settlement that is not reopened gives the sessions back, in the run that they settled.
@@ -318,7 +340,6 @@ fn all_is_freed_at_the_end() {
         let mut world = World::new();
         let [one, other] = &world.tickets;
         assert!(one.agrees(other).unwrap());
-        // Three answers are dropped, and the store keeps one of them as its spare.
         drop([(); 3].map(|()| world.session.status().unwrap()));
         let blocks: Vec<Block> = one.walk().unwrap().collect();
         assert!(blocks.iter().all(|block| !block.body().is_empty()));
@@ -338,6 +359,8 @@ fn all_is_freed_at_the_end() {
                 .is_some()
         );
         assert!(LIVE.get() > before);
+        let settled = Store::settle(vec![world.session, world.other]).unwrap();
+        assert_eq!(settled.history().len(), 1);
     }
     assert_eq!(LIVE.get(), before);
 }
@@ -354,16 +377,106 @@ fn a_restart_frees_the_history() {
     assert_eq!(live_after(1000), few);
 }
 
-/// A closed handle, which no part of the library can be read from.
-pub(crate) fn closed() -> Handle {
-    Spare::new().take()
+/// The bytes in use after this, without those in use before.
+fn live_after<T>(run: impl FnOnce() -> T) -> (T, isize) {
+    let before = LIVE.get();
+    let result = run();
+    (result, LIVE.get() - before)
 }
 
-/// The room of an answer that cannot be read.
-pub(crate) fn closed_room() -> Room {
-    let mut room = Room::new(&Arc::new(Spare::new())).unwrap();
-    drop(room.take());
-    room
+/// Each of ten runs has eight blocks of 100 KB. Of each run, two blocks are kept, and never used: one
+/// that was read, and one of a walk.
+#[test]
+fn a_block_keeps_only_itself() {
+    let com = Com::new(1);
+    let store = Store::new(&com.committee, Limits::default()).unwrap();
+    let mut session = store.session().unwrap();
+    let mut parent = None;
+    let mut run = |first: u64| {
+        let mut kept = Vec::new();
+        for round in first..first + 8 {
+            let parents: Vec<_> = parent.map(|digest| (0, digest)).into_iter().collect();
+            let texts = [vec![round as u8; 50_000], vec![7; 50_000]];
+            let (message, subject) = com.block(0, round, &parents, &texts);
+            for message in [message, com.certificate(&subject, &[0])] {
+                match com.committee.check(&message).unwrap() {
+                    Checked::Block(block) => drop(session.write(&block).unwrap()),
+                    Checked::Certificate(one) => drop(session.certify(&one).unwrap()),
+                    Checked::Vote(vote) => panic!("{vote:?}"),
+                }
+            }
+            let read = session.read(&subject.digest).unwrap().into_reply();
+            kept.push(read.unwrap());
+            parent = Some(subject.digest);
+        }
+        let causal = session.causal(&parent.unwrap()).unwrap();
+        let mut walk = causal.into_ticket().unwrap().walk().unwrap();
+        kept.truncate(1);
+        kept.extend(walk.nth(1));
+        let _ = session.collect(first + 8).unwrap();
+        drop(session.restart().unwrap());
+        store.compact().unwrap();
+        kept
+    };
+    let (kept, live) = live_after(|| (0..10).flat_map(|place| run(8 * place)).collect::<Vec<_>>());
+    assert_eq!(kept.len(), 20);
+    let bytes = 20 * 100_000;
+    assert!(
+        (bytes..bytes * 5 / 4).contains(&live),
+        "{live} bytes for {bytes}"
+    );
+    let (_, live) = live_after(|| drop(kept));
+    assert!(live < -bytes, "{live} bytes were freed");
+}
+
+/// A call that restarts the history frees the old one after its turn.
+#[test]
+fn a_history_is_freed_after_the_turn() {
+    let com = Com::new(1);
+    let builder = Store::builder(&com.committee).restart_when(u64::MAX, 2);
+    let store = builder.open().unwrap();
+    let mut session = store.session().unwrap();
+    let (message, _) = com.block(0, 0, &[], &vec![vec![7; 60_000]; 15]);
+    let Checked::Block(block) = com.committee.check(&message).unwrap() else {
+        panic!("the message is a block");
+    };
+    let _ = session.write(&block).unwrap();
+    drop(block);
+    let _ = session.collect(1).unwrap();
+    store.compact().unwrap();
+    let before = FREED_IN_TURN.get();
+    let (_, live) = live_after(|| session.status().unwrap());
+    assert!(live < -900_000, "{live} bytes of a history were freed");
+    let freed = FREED_IN_TURN.get() - before;
+    assert!(freed < 100_000, "{freed} bytes were freed in the turn");
+}
+
+/// Nothing stays of an answer that is dropped, and of a session that is dropped nothing large.
+#[test]
+fn a_dropped_answer_leaves_nothing() {
+    let com = Com::new(1);
+    let store = Store::new(&com.committee, Limits::default()).unwrap();
+    let mut session = store.session().unwrap();
+    let (message, _) = com.block(0, 0, &[], &vec![vec![7; 60_000]; 15]);
+    let ((), live) = live_after(|| {
+        let Checked::Block(block) = com.committee.check(&message).unwrap() else {
+            panic!("the message is a block");
+        };
+        let answers = [session.write(&block), session.write(&block)];
+        let status = session.status().unwrap();
+        let _ = session.collect(1).unwrap();
+        drop(session.restart().unwrap());
+        store.compact().unwrap();
+        drop((answers, status, session));
+    });
+    assert!(live < 10_000, "{live} bytes stay");
+}
+
+/// A closed handle, which no part of the library can be read from.
+pub(crate) fn closed() -> Handle {
+    let mut handle = Handle::answer().unwrap();
+    drop(handle.take());
+    handle
 }
 
 /// Decodes what cannot be read. That must panic, and not give an empty value.
@@ -379,16 +492,16 @@ pub(crate) fn refuses<T>(decode: impl FnOnce() -> T) {
 
 #[test]
 fn what_cannot_be_read_is_not_empty() {
-    refuses(|| History::new(closed_room()).len());
-    refuses(|| History::new(closed_room()).event(0));
-    refuses(|| History::new(closed_room()).is_prefix_of(&History::new(closed_room())));
-    refuses(|| Ticket::new(closed_room()).digest());
-    refuses(|| Ticket::new(closed_room()).walk());
-    refuses(|| Causal::of(closed_room()));
+    refuses(|| History::new(closed()).len());
+    refuses(|| History::new(closed()).event(0));
+    refuses(|| History::new(closed()).is_prefix_of(&History::new(closed())));
+    refuses(|| Ticket::new(closed()).digest());
+    refuses(|| Ticket::new(closed()).walk());
+    refuses(|| Causal::of(closed()));
     refuses(|| Reply::read(&mut closed()));
     refuses(|| CheckedCertificate::of(closed(), Subject::EMPTY));
     let certificate = World::new().certificate;
-    drop(certificate.handle.lock().take());
+    drop(certificate.text.handle.lock().take());
     refuses(|| certificate.signers());
 }
 
@@ -406,7 +519,7 @@ fn restarting_calls(limits: Limits, bytes: u64) -> Vec<(Option<StepError>, usize
         let outcome = session.status().map(drop).err();
         let is_last = FAILS.replace(0) > 0;
         outcomes.push((outcome, store.events()));
-        drop(session.status().unwrap());
+        let _ = session.status().unwrap();
         if is_last {
             break;
         }
@@ -418,13 +531,15 @@ fn restarting_calls(limits: Limits, bytes: u64) -> Vec<(Option<StepError>, usize
 fn automatic_restarts() {
     // A bound on bytes is advisory: without memory for the restart, the call goes on.
     let outcomes = restarting_calls(Limits::default(), 600);
-    assert_eq!(outcomes.first(), Some(&(None, 5)));
+    // The first allocation is that of the room for the answer, and the second that of the restart.
+    assert_eq!(outcomes[0], (Some(StepError::NoMemory), 4));
+    assert_eq!(outcomes[1], (None, 5));
     assert_eq!(outcomes.last(), Some(&(None, 1)));
     let full = Limits {
         events: 4,
         ..Limits::default()
     };
     let outcomes = restarting_calls(full, u64::MAX);
-    assert_eq!(outcomes.first(), Some(&(Some(StepError::NoMemory), 4)));
+    assert_eq!(outcomes[..2], [(Some(StepError::NoMemory), 4); 2]);
     assert_eq!(outcomes.last(), Some(&(None, 1)));
 }

@@ -1,7 +1,6 @@
 //! Notes: histories that sessions pass to each other.
 
 use crate::ffi::Handle;
-use crate::room::Room;
 use crate::{Events, History};
 use std::sync::Arc;
 
@@ -10,26 +9,22 @@ use std::sync::Arc;
 ///
 /// A clone shares the note, and costs one atomic increment. The type is `Send` and `Sync`.
 #[derive(Clone, Debug)]
-pub struct Note {
-    history: Arc<History>,
-}
+pub struct Note(Arc<History>);
 
 impl Note {
     pub(crate) fn new(handle: Handle) -> Note {
-        Note {
-            history: Arc::new(History::new(Room::own(handle))),
-        }
+        Note(Arc::new(History::new(handle)))
     }
 
     /// Returns the history. It has no events if the run had none yet.
     #[must_use]
     pub fn history(&self) -> &History {
-        &self.history
+        &self.0
     }
 
     /// Returns an iterator over the events of the history, from the first.
     #[must_use]
     pub fn events(&self) -> Events<'_> {
-        self.history.events()
+        self.0.events()
     }
 }

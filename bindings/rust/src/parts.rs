@@ -3,7 +3,6 @@
 use crate::Digest;
 use crate::code::{Code, read};
 use crate::ffi::{self, Handle};
-use crate::raw::RawParent;
 use std::fmt;
 use std::iter::FusedIterator;
 use std::slice;
@@ -22,9 +21,7 @@ impl Parts {
         let (mut parents, mut transactions) = (0, 0);
         ffi::nw_block_counts(block, &mut parents, &mut transactions).or_abort();
         let parent = |index| {
-            let raw = read(RawParent::EMPTY, |out| {
-                ffi::nw_block_parent(block, index, out)
-            });
+            let raw = read(|out| ffi::nw_block_parent(block, index, out));
             (raw.author, raw.digest)
         };
         let parents = (0..parents).map(parent).collect();
@@ -128,5 +125,31 @@ mod tests {
             BlockError::OverLimit
         );
         assert_eq!(new(1, &[], &vec![vec![]; 1025]), BlockError::OverLimit);
+        let parents: Vec<_> = (0..101).map(parent).collect();
+        assert_eq!(new(1, &parents, &[]), BlockError::OverLimit);
+        assert_eq!(new(1 << 48, &parents, &[]), BlockError::BadRound);
+    }
+
+    /// What exceeds a limit is not copied: there is no memory for 256 GiB.
+    #[test]
+    fn blocks_far_over_a_limit_are_refused() {
+        let megabyte = vec![0; 1 << 20];
+        for (count, text) in [(1 << 18, &megabyte[..]), (usize::MAX >> 10, &[])] {
+            let refused = match text {
+                [] => Block::new(0, 1, &[], &vec![[0; 0]; count]),
+                text => Block::new(0, 1, &[], &vec![text; count]),
+            };
+            assert_eq!(refused, Err(BlockError::OverLimit));
+        }
+        let many = vec![&megabyte[..65_536]; 1_024];
+        assert_eq!(Block::new(0, 1, &[], &many), Err(BlockError::OverLimit));
+        // 15 transactions of 65,536 bytes, and one that fills the body up to its limit, or beyond.
+        let fills = |spare: usize| {
+            let last = (1 << 20) - 15 * 65_540 - 13 - 4 - spare;
+            let mut texts = vec![&megabyte[..65_536]; 15];
+            texts.push(&megabyte[..last]);
+            Block::new(0, 1, &[], &texts).map(|block| block.body().len())
+        };
+        assert_eq!((fills(0), fills(1)), (Ok(1 << 20), Ok((1 << 20) - 1)));
     }
 }

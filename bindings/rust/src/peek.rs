@@ -1,10 +1,10 @@
 //! What the first bytes of a message say.
 
+use crate::Subject;
 use crate::ffi;
 use crate::raw::{RawMessage, unexpected_kind};
-use crate::{Message, Subject};
 
-/// What the first bytes of a message say, before any check. See [`Message::peek`].
+/// What the first bytes of a message say, before any check. [`Peek::of`] reads it.
 #[derive(Clone, Copy, Debug, PartialEq, Eq, Hash)]
 pub enum Peek {
     /// A block. Its digest is the SHA-256 digest of its body, so it is not known without a hash.
@@ -26,9 +26,48 @@ pub enum Peek {
 }
 
 impl Peek {
+    /// Reads the kind of a message, and what it is about, from its first bytes.
+    ///
+    /// Use it to drop a message before you pay for its check: one that you already have, one below
+    /// the garbage round, or one beyond a peer's budget. It reads at most 43 bytes, takes no lock,
+    /// allocates nothing, and computes no hash.
+    ///
+    /// **Nothing is verified.** Anyone can write these bytes: the named author or signer may not
+    /// have sent the message, and the rest of the bytes may not be a message. If
+    /// [`Committee::check`] accepts the same bytes, the checked message has the fields that this
+    /// returns. The proofs of the library cover this.
+    ///
+    /// Returns `None` exactly when the first byte is not that of a message, the version of a block is
+    /// not 1, or the bytes end before these fields do. `check` refuses such bytes, under
+    /// every committee.
+    ///
+    /// ```
+    /// # mod data { include!(concat!(env!("CARGO_MANIFEST_DIR"), "/examples/data/mod.rs")); }
+    /// # let (keys, bytes) = (data::keys(), data::values("message").remove(0));
+    /// use narwhal_store::{Checked, Committee, Peek};
+    ///
+    /// let Some(Peek::Block { round, author }) = Peek::of(&bytes) else {
+    ///     panic!("the first message is a block");
+    /// };
+    /// let Checked::Block(block) = Committee::equal(&keys)?.check(&bytes)? else {
+    ///     panic!("the first message is a block");
+    /// };
+    /// assert_eq!((round, author), (block.subject().round, block.subject().author));
+    ///
+    /// // The first ten bytes of a block are enough, and fewer are not.
+    /// assert_eq!(Peek::of(&bytes[..10]), Peek::of(&bytes));
+    /// assert_eq!(Peek::of(&bytes[..9]), None);
+    /// # Ok::<(), Box<dyn std::error::Error>>(())
+    /// ```
+    #[must_use]
+    pub fn of(message: &[u8]) -> Option<Peek> {
+        let raw = ffi::peek(message)?;
+        Peek::read(&raw).or_else(|| unexpected_kind(raw.kind))
+    }
+
     /// Decodes the kind of a message. The numbers are the kinds of messages in `nw.h`. Returns `None`
     /// for the kind of a fault.
-    pub(crate) fn of(raw: &RawMessage) -> Option<Peek> {
+    pub(crate) fn read(raw: &RawMessage) -> Option<Peek> {
         let (subject, signer) = (raw.subject, raw.signer);
         let Subject { round, author, .. } = subject;
         match raw.kind {
@@ -58,59 +97,16 @@ impl Peek {
     }
 }
 
-impl Message {
-    /// Reads the kind of a message, and what it is about, from its first bytes.
-    ///
-    /// Use it to drop a message before you pay for its check: one that you already have, one below
-    /// the garbage round, or one beyond a peer's budget. It reads at most 43 bytes, takes no lock,
-    /// allocates nothing, and computes no hash.
-    ///
-    /// **Nothing is verified.** Anyone can write these bytes: the named author or signer may not
-    /// have sent the message, and the rest of the bytes may not be a message. If
-    /// [`Message::check`] accepts the same bytes, the checked message has the fields that this
-    /// returns. The proofs of the library cover this.
-    ///
-    /// Returns `None` exactly when the first byte is not that of a message, the version of a block is
-    /// not 1, or the bytes end before these fields do. `Message::check` refuses such bytes, under
-    /// every committee.
-    ///
-    /// ```
-    /// # mod data { include!(concat!(env!("CARGO_MANIFEST_DIR"), "/examples/data/mod.rs")); }
-    /// # let (keys, bytes) = (data::keys(), data::values("message").remove(0));
-    /// use narwhal_store::{Checked, Committee, Message, Peek};
-    ///
-    /// let Some(Peek::Block { round, author }) = Message::peek(&bytes) else {
-    ///     panic!("the first message is a block");
-    /// };
-    /// let Checked::Block(block) = Message::check(&Committee::equal(&keys)?, &bytes)? else {
-    ///     panic!("the first message is a block");
-    /// };
-    /// assert_eq!((round, author), (block.subject().round, block.subject().author));
-    ///
-    /// // The first ten bytes of a block are enough, and fewer are not.
-    /// assert_eq!(Message::peek(&bytes[..10]), Message::peek(&bytes));
-    /// assert_eq!(Message::peek(&bytes[..9]), None);
-    /// # Ok::<(), Box<dyn std::error::Error>>(())
-    /// ```
-    #[must_use]
-    pub fn peek(message: &[u8]) -> Option<Peek> {
-        let raw = ffi::peek(message)?;
-        Peek::of(&raw).or_else(|| unexpected_kind(raw.kind))
-    }
-}
-
 #[cfg(test)]
 mod tests {
     use crate::no_memory::data;
-    use crate::{
-        Block, Checked, Committee, Digest, Message, Peek, Signature, Subject, vote_message,
-    };
+    use crate::{Block, Checked, Committee, Digest, Peek, Signature, Subject, vote_message};
 
     #[test]
     fn peeks_are_those_of_the_checked_messages() {
         let committee = Committee::equal(&data::keys()).unwrap();
         for message in data::values("message") {
-            let peek = match Message::check(&committee, &message).unwrap() {
+            let peek = match committee.check(&message).unwrap() {
                 Checked::Block(block) => Peek::Block {
                     round: block.subject().round,
                     author: block.subject().author,
@@ -121,7 +117,7 @@ mod tests {
                     signer: vote.signer(),
                 },
             };
-            assert_eq!(Message::peek(&message), Some(peek));
+            assert_eq!(Peek::of(&message), Some(peek));
         }
     }
 
@@ -145,10 +141,10 @@ mod tests {
             assert_eq!((peek.round(), peek.author()), (round, author));
             for len in 0..=message.len() {
                 let wanted = (len >= size).then_some(peek);
-                assert_eq!(Message::peek(&message[..len]), wanted);
+                assert_eq!(Peek::of(&message[..len]), wanted);
             }
         }
-        assert_eq!(Message::peek(&[4; 43]), None);
-        assert_eq!(Message::peek(&[1, 2, 0, 0, 0, 0, 0, 0, 0, 0]), None);
+        assert_eq!(Peek::of(&[4; 43]), None);
+        assert_eq!(Peek::of(&[1, 2, 0, 0, 0, 0, 0, 0, 0, 0]), None);
     }
 }

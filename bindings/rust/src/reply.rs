@@ -9,7 +9,7 @@ use crate::{Digest, Reply};
 ///
 /// The store tests the cases in the order of docs/MODEL.md. That is the order of the variants,
 /// except that `Stored` comes last. Only `Stored` changes the store.
-#[derive(Clone, Copy, Debug, PartialEq, Eq)]
+#[derive(Clone, Copy, Debug, PartialEq, Eq, Hash)]
 pub enum WriteReply {
     /// The block is now stored. Log it.
     Stored {
@@ -49,7 +49,7 @@ pub enum WriteReply {
 ///
 /// The store tests the cases in the order of docs/MODEL.md. That is the order of the variants,
 /// except that `Certified` comes last. Only `Certified` changes the store.
-#[derive(Clone, Copy, Debug, PartialEq, Eq)]
+#[derive(Clone, Copy, Debug, PartialEq, Eq, Hash)]
 pub enum CertifyReply {
     /// The certificate is now stored. Log it.
     Certified,
@@ -75,7 +75,7 @@ pub enum CertifyReply {
 }
 
 /// The reply to [`Session::collect`](crate::Session::collect).
-#[derive(Clone, Copy, Debug, PartialEq, Eq)]
+#[derive(Clone, Copy, Debug, PartialEq, Eq, Hash)]
 pub enum CollectReply {
     /// The garbage round is raised. Log the collection.
     Raised {
@@ -91,7 +91,7 @@ pub enum CollectReply {
 
 /// Why a causal read gets no ticket. It is the reply to [`Session::causal`](crate::Session::causal)
 /// in that case.
-#[derive(Clone, Copy, Debug, PartialEq, Eq)]
+#[derive(Clone, Copy, Debug, PartialEq, Eq, Hash)]
 pub enum CausalFault {
     /// The block is not stored.
     Unknown,
@@ -110,7 +110,7 @@ error_texts!(CausalFault {
 });
 
 /// The counts of a store. They are the reply to [`Session::status`](crate::Session::status).
-#[derive(Clone, Copy, Debug, PartialEq, Eq)]
+#[derive(Clone, Copy, Debug, PartialEq, Eq, Hash)]
 #[repr(C)]
 pub struct Status {
     /// The garbage round.
@@ -123,17 +123,6 @@ pub struct Status {
     pub complete: u64,
     /// The number of missing parents.
     pub wanted: u64,
-}
-
-impl Status {
-    /// Counts for the library to write into.
-    pub(crate) const EMPTY: Status = Status {
-        garbage_round: 0,
-        blocks: 0,
-        certificates: 0,
-        complete: 0,
-        wanted: 0,
-    };
 }
 
 /// Converts a [`Reply`] to the reply type of one call. The variants have the same names.

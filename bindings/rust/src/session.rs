@@ -1,14 +1,13 @@
 //! Sessions, which make the calls of a store.
 
 use crate::answer::Answer;
-use crate::block::Source;
 use crate::caller::Caller;
+use crate::checked::Text;
 use crate::code::{Code, read};
+use crate::content::EventContent;
 use crate::debug::debug_by;
 use crate::ffi::{self, Handle};
-use crate::lock::Lock;
-use crate::raw::{RawAuthorLook, RawLook, unexpected_kind};
-use crate::room::{EventContent, Room};
+use crate::raw::{Empty, RawAuthorLook, RawLook, unexpected_kind};
 use crate::store::Inner;
 use crate::{Block, Causal, CertifyReply, CheckedBlock, CheckedCertificate, CollectReply, Digest};
 use crate::{Look, NoMemory, Note, Reply, Status, StepError, Subject, WriteReply};
@@ -30,6 +29,8 @@ use std::sync::Arc;
 /// - When all sessions [settle](crate::Store::settle), one history has all their calls, and begins
 ///   with the history of each answer.
 ///
+/// When a session is dropped, the next one that the store makes continues it, with its number.
+///
 /// A failed call changes no block, certificate or vote, and adds no event. If it restarted the
 /// history first, the history is empty. Every call can fail with these errors of [`StepError`]:
 ///
@@ -37,11 +38,6 @@ use std::sync::Arc;
 ///   store [never restarts](crate::StoreBuilder::never_restart).
 /// - [`NoMemory`](StepError::NoMemory) if the library could not allocate memory. The call can be
 ///   repeated.
-///
-/// ```compile_fail,E0277
-/// fn shared<T: Sync>() {}
-/// shared::<narwhal_store::Session>();
-/// ```
 pub struct Session {
     pub(crate) store: Arc<Inner>,
     pub(crate) caller: Caller,
@@ -100,9 +96,9 @@ impl Session {
     /// # let committee = narwhal_store::Committee::equal(&keys)?;
     /// # let mut session = Store::new(&committee, Limits::default())?.session()?;
     /// # let message = &messages[0];
-    /// use narwhal_store::{Checked, Message, WriteReply, text_of_vote};
+    /// use narwhal_store::{Checked, WriteReply, text_of_vote};
     ///
-    /// if let Checked::Block(block) = Message::check(&committee, message)? {
+    /// if let Checked::Block(block) = committee.check(message)? {
     ///     match session.write(&block)?.reply() {
     ///         WriteReply::Stored { vote: true } => {
     ///             // Once its parents are satisfied: sign this text, and send the vote to the author.
@@ -115,8 +111,8 @@ impl Session {
     /// # Ok::<(), Box<dyn std::error::Error>>(())
     /// ```
     pub fn write(&mut self, block: &CheckedBlock) -> Result<Answer<WriteReply>, StepError> {
-        let answer = self.hand_in(block.size, &block.handle)?;
-        Ok(Answer::new(answer, |answer, _| WriteReply::read(answer)))
+        let answer = self.hand_in(&block.text)?;
+        Ok(Answer::new(answer, WriteReply::read))
     }
 
     /// Hands in a certificate. The store has it if the reply is [`CertifyReply::Certified`] or
@@ -132,8 +128,8 @@ impl Session {
         &mut self,
         certificate: &CheckedCertificate,
     ) -> Result<Answer<CertifyReply>, StepError> {
-        let answer = self.hand_in(certificate.size, &certificate.handle)?;
-        Ok(Answer::new(answer, |answer, _| CertifyReply::read(answer)))
+        let answer = self.hand_in(&certificate.text)?;
+        Ok(Answer::new(answer, CertifyReply::read))
     }
 
     /// Looks up the certificate of a digest. The reply is its message, or `None` if there is no
@@ -146,7 +142,7 @@ impl Session {
         let answer = self.step(EventContent::Small, |session, answer| {
             ffi::nw_session_certificate(session, digest, answer)
         })?;
-        Ok(Answer::new(answer, |answer, _| certificate_of(answer)))
+        Ok(Answer::new(answer, certificate_of))
     }
 
     /// Looks up the block of a digest. The reply is the block, or `None` if it is not stored.
@@ -209,7 +205,7 @@ impl Session {
         let answer = self.step(EventContent::Collection, |session, answer| {
             ffi::nw_session_collect(session, round, answer)
         })?;
-        Ok(Answer::new(answer, |answer, _| CollectReply::read(answer)))
+        Ok(Answer::new(answer, CollectReply::read))
     }
 
     /// Lists missing parents: blocks that a stored block above the garbage round refers to, and
@@ -225,7 +221,7 @@ impl Session {
         let answer = self.step(EventContent::Parents(most), |session, answer| {
             ffi::nw_session_missing(session, most, answer)
         })?;
-        Ok(Answer::new(answer, |answer, _| subjects_of(answer)))
+        Ok(Answer::new(answer, subjects_of))
     }
 
     /// Lists the missing parents of the block of a digest: those that are not stored or not
@@ -241,14 +237,14 @@ impl Session {
     ///
     /// ```
     /// # mod data { include!(concat!(env!("CARGO_MANIFEST_DIR"), "/examples/data/mod.rs")); }
-    /// # use narwhal_store::{Checked, Committee, Limits, Message, Store};
+    /// # use narwhal_store::{Checked, Committee, Limits, Store};
     /// # let committee = Committee::equal(&data::keys())?;
     /// # let mut session = Store::new(&committee, Limits::default())?.session()?;
     /// # let messages = data::values("message");
-    /// # let Checked::Block(block) = Message::check(&committee, &messages[0])? else { panic!() };
+    /// # let Checked::Block(block) = committee.check(&messages[0])? else { panic!() };
     /// let digest = block.subject().digest;
     /// assert_eq!(session.missing_of(&digest)?.reply(), &None);
-    /// drop(session.write(&block)?);
+    /// let _ = session.write(&block)?;
     /// assert_eq!(session.missing_of(&digest)?.reply(), &Some(vec![]));
     /// # Ok::<(), Box<dyn std::error::Error>>(())
     /// ```
@@ -259,7 +255,7 @@ impl Session {
         let answer = self.step(EventContent::PARENTS_OF_ONE, |session, answer| {
             ffi::nw_session_missing_of(session, digest, answer)
         })?;
-        Ok(Answer::new(answer, |answer, _| missing_of(answer)))
+        Ok(Answer::new(answer, missing_of))
     }
 
     /// Counts the blocks, certificates, complete blocks and missing parents of the store.
@@ -271,7 +267,7 @@ impl Session {
         let answer = self.step(EventContent::Small, |session, answer| {
             ffi::nw_session_status(session, answer)
         })?;
-        Ok(Answer::new(answer, |answer, _| status_of(answer)))
+        Ok(Answer::new(answer, status_of))
     }
 
     /// Looks at what the store has for a round and an author.
@@ -280,17 +276,17 @@ impl Session {
     /// of. This is no call: it adds no event. It takes the library's lock for a few look-ups. No block
     /// has a round of 2^48 or more, so such a look finds no digest.
     ///
-    /// A validator looks before it [checks](crate::Message::check) a message that it
-    /// [peeked](crate::Message::peek) at, and looks at the parents of a block before it votes.
+    /// A validator looks before it [checks](crate::Committee::check) a message that it
+    /// [peeked](crate::Peek::of) at, and looks at the parents of a block before it votes.
     ///
     /// ```
     /// # mod data { include!(concat!(env!("CARGO_MANIFEST_DIR"), "/examples/data/mod.rs")); }
-    /// # use narwhal_store::{Checked, Committee, Limits, Message, Store};
+    /// # use narwhal_store::{Checked, Committee, Limits, Store};
     /// # let committee = Committee::equal(&data::keys())?;
     /// # let mut session = Store::new(&committee, Limits::default())?.session()?;
     /// # let messages = data::values("message");
-    /// # let Checked::Block(block) = Message::check(&committee, &messages[0])? else { panic!() };
-    /// drop(session.write(&block)?);
+    /// # let Checked::Block(block) = committee.check(&messages[0])? else { panic!() };
+    /// let _ = session.write(&block)?;
     /// let subject = block.subject();
     /// let look = session.look(subject.round, subject.author);
     /// assert_eq!(look.first, Some(subject.digest));
@@ -300,23 +296,15 @@ impl Session {
     #[must_use]
     pub fn look(&mut self, round: u64, author: u16) -> Look {
         let mut raw = RawLook::EMPTY;
-        let mut look = |round, author| {
-            self.in_turn(|session| ffi::nw_session_look(session, round, author, &mut raw))
-        };
-        match look(round, author) {
+        let look = |session: &mut _| ffi::nw_session_look(session, round, author, &mut raw);
+        match self.in_turn(look) {
             Code::BAD_ROUND => {
-                look(0, 0).or_abort();
-                let garbage_round = raw.garbage_round;
-                Look::of(&RawLook {
-                    garbage_round,
-                    ..RawLook::EMPTY
-                })
+                let known = self.look(0, author);
+                (raw.garbage_round, raw.newest_round) = (known.garbage_round, known.newest_round);
             }
-            code => {
-                code.or_abort();
-                Look::of(&raw)
-            }
+            code => code.or_abort(),
         }
+        Look::of(&raw)
     }
 
     /// Looks at what the store has for each author of a round.
@@ -336,12 +324,12 @@ impl Session {
     ///
     /// ```
     /// # mod data { include!(concat!(env!("CARGO_MANIFEST_DIR"), "/examples/data/mod.rs")); }
-    /// # use narwhal_store::{Checked, Committee, Limits, Message, Store};
+    /// # use narwhal_store::{Checked, Committee, Limits, Store};
     /// # let committee = Committee::equal(&data::keys())?;
     /// # let mut session = Store::new(&committee, Limits::default())?.session()?;
     /// # let messages = data::values("message");
-    /// # let Checked::Block(block) = Message::check(&committee, &messages[0])? else { panic!() };
-    /// drop(session.write(&block)?);
+    /// # let Checked::Block(block) = committee.check(&messages[0])? else { panic!() };
+    /// let _ = session.write(&block)?;
     /// let subject = block.subject();
     /// let looks = session.look_round(subject.round)?;
     /// assert_eq!(looks, [(subject.author, session.look(subject.round, subject.author))]);
@@ -369,21 +357,21 @@ impl Session {
     ///
     /// # Errors
     ///
-    /// [`StepError::NoMemory`] if the library could not allocate memory.
+    /// [`NoMemory`] if the library could not allocate memory.
     ///
     /// ```
     /// # use narwhal_store::{Committee, Limits, PublicKey, Store};
     /// # let committee = Committee::equal(&[PublicKey([7; 32])])?;
     /// let store = Store::new(&committee, Limits::default())?;
     /// let (mut one, mut other) = (store.session()?, store.session()?);
-    /// drop(one.collect(4)?);
+    /// let _ = one.collect(4)?;
     /// let note = one.note()?;
     /// assert!(other.hear(&note)?);
     /// let answer = other.status()?;
     /// assert!(note.history().is_prefix_of(answer.history()));
     /// # Ok::<(), Box<dyn std::error::Error>>(())
     /// ```
-    pub fn note(&mut self) -> Result<Note, StepError> {
+    pub fn note(&mut self) -> Result<Note, NoMemory> {
         let mut note = Handle::answer()?;
         let take = |session: &mut _| ffi::nw_session_note(session, &mut note);
         self.in_turn(take).done()?;
@@ -395,24 +383,28 @@ impl Session {
     ///
     /// - `true`: from now on, the note is a prefix of the history of every answer that this session
     ///   gets in the run. Every note of the present run is heard.
-    /// - `false`: the note is of another store, or of a run that a [restart](Session::restart) ended.
-    ///   Nothing changes.
+    /// - `false`: the note is no prefix of the present run, because it is of another store, or of a run
+    ///   that a [restart](Session::restart) ended. Nothing changes.
+    ///
+    /// Only the histories are compared. So a note of another store is heard too if it has the same
+    /// committee, limits, first state and first events: for instance, none in two new stores.
     ///
     /// This takes time in proportion to the events of the note, and to the state that its history
-    /// started from. It holds up no call meanwhile.
+    /// started from. It holds up no call of the store meanwhile. But hearings and comparisons of one
+    /// note and its clones come one after another: take a note for each session that hears.
     ///
     /// # Errors
     ///
-    /// [`StepError::NoMemory`] if the library could not allocate memory.
-    pub fn hear(&mut self, note: &Note) -> Result<bool, StepError> {
-        let mut note = note.history().room();
-        // The library compares the events without its lock, so this takes no turn.
-        let mut turn = self.store.turns.none();
-        let hear = |session: &mut _| ffi::nw_session_hear(session, &mut note);
-        match turn.call(&mut self.caller, hear) {
-            Code::DONE => Ok(true),
-            Code::OTHER_HISTORY => Ok(false),
-            refused => Err(refused.into()),
+    /// [`NoMemory`] if the library could not allocate memory.
+    pub fn hear(&mut self, note: &Note) -> Result<bool, NoMemory> {
+        let hear = |session: &mut _| ffi::nw_session_hear(session, &mut note.history().handle());
+        loop {
+            // The library compares the events without its lock, so this takes no turn.
+            match self.caller.call(hear) {
+                Code::ENDED => self.renew()?,
+                Code::OTHER_HISTORY => return Ok(false),
+                code => return Ok(code.done().map(|()| true)?),
+            }
         }
     }
 
@@ -428,15 +420,15 @@ impl Session {
     ///
     /// # Errors
     ///
-    /// [`StepError::NoMemory`] if the library could not allocate memory.
+    /// [`NoMemory`] if the library could not allocate memory.
     ///
     /// ```
     /// # use narwhal_store::{Committee, Limits, PublicKey, Store};
     /// # let committee = Committee::equal(&[PublicKey([7; 32])])?;
     /// let store = Store::new(&committee, Limits::default())?;
     /// let (mut one, mut other) = (store.session()?, store.session()?);
-    /// drop(one.collect(4)?);
-    /// drop(other.status()?);
+    /// let _ = one.collect(4)?;
+    /// let _ = other.status()?;
     /// let ended = one.restart()?;
     /// assert_eq!((ended.history().len(), store.events()), (2, 0));
     /// // The other session goes on in the new run.
@@ -445,38 +437,36 @@ impl Session {
     /// assert_eq!(answer.reply().garbage_round, 4);
     /// # Ok::<(), Box<dyn std::error::Error>>(())
     /// ```
-    pub fn restart(&mut self) -> Result<Note, StepError> {
-        let mut turn = self.store.turns.take();
+    pub fn restart(&mut self) -> Result<Note, NoMemory> {
         loop {
-            let last = Handle::answer()?;
-            let old = self.store.restart(&mut turn, &mut self.caller, last)?;
-            if let Some([last, _spare]) = old {
-                drop(turn);
+            let mut turn = self.store.turns.take();
+            if let Some(last) = self.store.restart(&mut turn, &mut self.caller)? {
                 return Ok(Note::new(last));
             }
         }
     }
 
-    /// Hands in a block or a certificate, whose message has this size.
-    fn hand_in(&mut self, size: u64, checked: &Lock<Handle>) -> Result<Room, StepError> {
-        let mut checked = checked.lock();
-        self.step(EventContent::HandedIn(size), |session, answer| {
-            ffi::nw_session_hand_in(session, &mut checked, answer)
+    /// Takes the session into the present run of its store.
+    pub(crate) fn renew(&mut self) -> Result<(), Code> {
+        self.store.turns.take().renew(&mut self.caller).done()
+    }
+
+    /// Hands in a block or a certificate. Its handle is locked only during the call, and not during
+    /// the wait for the turn.
+    fn hand_in(&mut self, text: &Text) -> Result<Handle, StepError> {
+        self.step(EventContent::HandedIn(text.size), |session, answer| {
+            ffi::nw_session_hand_in(session, &mut text.handle.lock(), answer)
         })
     }
 
-    /// Makes this session's next call, and returns its answer. The room for the answer is made
-    /// before the call, so that no event loses its answer.
+    /// Makes this session's next call, and returns its answer.
     #[inline]
     fn step(
         &mut self,
         content: EventContent,
         call: impl FnMut(&mut Handle, &mut Handle) -> Code,
-    ) -> Result<Room, StepError> {
-        let mut room = Room::new(&self.store.spare)?;
-        self.store
-            .step(&mut self.caller, content, &mut room, call)?;
-        Ok(room)
+    ) -> Result<Handle, StepError> {
+        self.store.step(&mut self.caller, content, call)
     }
 
     /// Waits for the turn of this thread, and then calls the session, in the present run.
@@ -485,18 +475,22 @@ impl Session {
     }
 }
 
+impl Drop for Session {
+    fn drop(&mut self) {
+        let caller = self.caller.take();
+        self.store.idle.lock().extend(caller);
+    }
+}
+
 /// The message of the certificate that was found.
 fn certificate_of(answer: &mut Handle) -> Option<Vec<u8>> {
     ffi::answer_message(answer).map_or_else(Code::none_or_abort, Some)
 }
 
-/// The block that was found. If this is the answer's last use, the block takes the answer.
-fn block_of(answer: &mut Room, is_last: bool) -> Option<Block> {
+/// The block that was found. It keeps no part of the answer.
+fn block_of(answer: &mut Handle) -> Option<Block> {
     let is_found = Reply::read(answer) == Reply::Found;
-    is_found.then(|| match is_last {
-        true => Block::at(Source::Answer(answer.take())),
-        false => Block::found(answer),
-    })
+    is_found.then(|| Block::opened(|out| ffi::nw_answer_block(answer, out)))
 }
 
 /// The listed missing parents. The answer is to a call for those of all blocks.
@@ -511,16 +505,12 @@ fn missing_of(answer: &mut Handle) -> Option<Vec<Subject>> {
         Reply::Unknown => return None,
         other => unexpected_kind(other),
     };
-    let subject = |index| {
-        read(Subject::EMPTY, |out| {
-            ffi::nw_answer_missing(answer, index, out)
-        })
-    };
+    let subject = |index| read(|out| ffi::nw_answer_missing(answer, index, out));
     Some((0..listed).map(subject).collect())
 }
 
 fn status_of(answer: &mut Handle) -> Status {
-    read(Status::EMPTY, |out| ffi::nw_answer_status(answer, out))
+    read(|out| ffi::nw_answer_status(answer, out))
 }
 
 debug_by!(Session: id);
@@ -528,12 +518,12 @@ debug_by!(Session: id);
 #[cfg(test)]
 mod tests {
     use super::{block_of, certificate_of, missing_of, status_of, subjects_of};
-    use crate::no_memory::{closed, closed_room, refuses};
+    use crate::no_memory::{closed, refuses};
 
     #[test]
     fn what_cannot_be_read_is_not_empty() {
         refuses(|| certificate_of(&mut closed()));
-        refuses(|| block_of(&mut closed_room(), false));
+        refuses(|| block_of(&mut closed()));
         refuses(|| subjects_of(&mut closed()));
         refuses(|| missing_of(&mut closed()));
         refuses(|| status_of(&mut closed()));

@@ -1,11 +1,9 @@
 //! Settlements: one history of all sessions.
 
 use crate::caller::again;
-use crate::error::coded_error;
+use crate::error::{coded_error, error_texts};
 use crate::ffi::{self, Handle};
 use crate::{Event, History, NoMemory, Note, Session, Store};
-use std::error::Error;
-use std::fmt;
 use std::sync::Arc;
 
 /// All sessions of a store, and the one history that has their calls.
@@ -25,8 +23,9 @@ impl Store {
     /// - It has all calls of the run, and each session's calls once and in order.
     /// - The history of each answer and note of the run is a prefix of it.
     ///
-    /// No session of the store can be left out, so do not drop one before. A session that made no
-    /// call since the last [restart](Session::restart) has no calls in the history.
+    /// No session of the store can be left out. If you dropped some, make them again with
+    /// [`Store::session`]. A session that made no call since the last [restart](Session::restart) has
+    /// no calls in the history.
     ///
     /// For each session, this takes time in proportion to the events, and to the state that the
     /// history started from. If memory runs out while the sessions are given back, the process ends,
@@ -66,8 +65,7 @@ impl Store {
     /// assert_eq!(unsettled.why(), SettleError::Missing);
     /// # Ok::<(), Box<dyn std::error::Error>>(())
     /// ```
-    pub fn settle(sessions: Vec<Session>) -> Result<Settled, Unsettled> {
-        let mut sessions = sessions;
+    pub fn settle(mut sessions: Vec<Session>) -> Result<Settled, Unsettled> {
         sessions.sort_by_key(Session::id);
         match settle(&mut sessions) {
             Ok(history) => Ok(Settled { sessions, history }),
@@ -107,7 +105,7 @@ impl Settled {
     /// # let committee = Committee::equal(&[PublicKey([7; 32])])?;
     /// let store = Store::new(&committee, Limits::default())?;
     /// let mut session = store.session()?;
-    /// drop(session.collect(3)?);
+    /// let _ = session.collect(3)?;
     /// let (store, mut sessions) = Store::settle(vec![session])?.reopen()?;
     /// assert_eq!(store.events(), 0);
     /// assert_eq!(sessions[0].status()?.reply().garbage_round, 3);
@@ -117,28 +115,24 @@ impl Settled {
         let mut sessions = self.sessions;
         // A settlement has at least one session.
         let inner = Arc::clone(&sessions[0].store);
-        match sessions[0].restart() {
+        match sessions[0].restart().map_err(SettleError::from) {
             Ok(_) => Ok((Store { inner }, sessions)),
-            Err(_) => {
-                let why = SettleError::NoMemory;
-                Err(Unsettled { sessions, why })
-            }
+            Err(why) => Err(Unsettled { sessions, why }),
         }
     }
 }
 
 /// The history of all calls of these sessions, which ascend by their numbers.
 fn settle(sessions: &mut [Session]) -> Result<Note, SettleError> {
-    let Some(first) = sessions.first() else {
+    if sessions.is_empty() {
         return Err(SettleError::Missing);
-    };
-    let store = Arc::clone(&first.store);
-    let is_other = |session: &Session| !Arc::ptr_eq(&session.store, &store);
-    if sessions.iter().any(is_other) {
+    }
+    let is_own = |session: &Session| Arc::ptr_eq(&session.store, &sessions[0].store);
+    if !sessions.iter().all(is_own) {
         return Err(SettleError::OtherStore);
     }
     for session in &mut *sessions {
-        store.turns.take().renew(&mut session.caller).done()?;
+        session.renew()?;
     }
     Given::new(sessions)?.settle()
 }
@@ -154,7 +148,7 @@ pub(crate) struct Given<'a> {
 impl Given<'_> {
     pub(crate) fn new(sessions: &mut [Session]) -> Result<Given<'_>, NoMemory> {
         let mut given = Given {
-            settlement: Handle::opened(|out| ffi::nw_settlement_new(out))?,
+            settlement: Handle::opened(ffi::nw_settlement_new)?,
             sessions,
             count: 0,
         };
@@ -203,16 +197,12 @@ impl Unsettled {
     }
 }
 
-impl fmt::Display for Unsettled {
-    fn fmt(&self, f: &mut fmt::Formatter<'_>) -> fmt::Result {
-        self.why.fmt(f)
-    }
-}
-
-impl Error for Unsettled {}
+error_texts!(Unsettled {
+    Unsettled { why, .. } => "{why}",
+});
 
 /// Why sessions do not settle.
-#[derive(Clone, Copy, Debug, PartialEq, Eq)]
+#[derive(Clone, Copy, Debug, PartialEq, Eq, Hash)]
 #[non_exhaustive]
 pub enum SettleError {
     /// The sessions are not all that the store made.

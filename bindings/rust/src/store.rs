@@ -3,12 +3,12 @@
 use crate::builder::RestartWhen;
 use crate::caller::{Caller, again};
 use crate::code::Code;
-use crate::ffi::{self, Handle, Spare};
+use crate::content::EventContent;
+use crate::debug::debug_by;
+use crate::ffi::{self, Handle};
 use crate::lock::Lock;
-use crate::room::{EventContent, Room};
-use crate::turns::{Turn, Turns};
-use crate::{Committee, Limits, NoMemory, OpenError, Session, StepError, StoreBuilder};
-use std::fmt;
+use crate::turns::{Counts, Turn, Turns};
+use crate::{Changed, Committee, Limits, NoMemory, OpenError, Session, StepError};
 use std::sync::Arc;
 use std::time::Duration;
 
@@ -33,20 +33,20 @@ use std::time::Duration;
 /// Collection removes blocks from the tables, but does not free them:
 ///
 /// - The history holds them until it restarts. By default the store restarts it: see
-///   [`StoreBuilder::restart_when`].
+///   [`StoreBuilder::restart_when`](crate::StoreBuilder::restart_when).
 /// - The list that causal reads share holds them until [`Store::compact`] or its next rebuild.
 /// - Answers and tickets hold them until they are dropped.
 ///
 /// ```
 /// # mod data { include!(concat!(env!("CARGO_MANIFEST_DIR"), "/examples/data/mod.rs")); }
 /// # let (keys, messages) = (data::keys(), data::values("message"));
-/// use narwhal_store::{Checked, Committee, Limits, Message, Store, WriteReply};
+/// use narwhal_store::{Checked, Committee, Limits, Store, WriteReply};
 ///
 /// let committee = Committee::equal(&keys)?;
 /// let store = Store::new(&committee, Limits::default())?;
 /// let mut session = store.session()?;
 ///
-/// if let Checked::Block(block) = Message::check(&committee, &messages[0])? {
+/// if let Checked::Block(block) = committee.check(&messages[0])? {
 ///     let answer = session.write(&block)?;
 ///     assert_eq!(answer.reply(), &WriteReply::Stored { vote: true });
 ///     let found = session.read(&block.subject().digest)?.into_reply();
@@ -64,17 +64,13 @@ pub struct Store {
 pub(crate) struct Inner {
     /// The store of the library. Its sessions are called without it.
     pub(crate) store: Lock<Handle>,
+    /// The callers of dropped sessions, for the next sessions.
+    pub(crate) idle: Lock<Vec<Caller>>,
     pub(crate) turns: Turns,
-    /// The room of a dropped answer, for the next call.
-    pub(crate) spare: Arc<Spare>,
     pub(crate) committee: Committee,
     pub(crate) limits: Limits,
     pub(crate) restart_when: Option<RestartWhen>,
 }
-
-/// What a restart leaves of the old history: the whole, and the spare answer, which can share it.
-/// They are dropped after the turn, because they are often its last owners.
-type Old = [Handle; 2];
 
 impl Store {
     /// The bytes of a history at which a store restarts it by default: 64 MiB.
@@ -84,7 +80,7 @@ impl Store {
     pub const HISTORY_BYTES: u64 = 64 << 20;
 
     /// Opens an empty store under the committee. It restarts its history by itself: see
-    /// [`StoreBuilder::restart_when`].
+    /// [`StoreBuilder::restart_when`](crate::StoreBuilder::restart_when).
     ///
     /// # Errors
     ///
@@ -93,45 +89,30 @@ impl Store {
         Store::builder(committee).limits(limits).open()
     }
 
-    /// Returns a builder for a store under the committee, with [`Limits::default`] and automatic
-    /// restarts.
+    /// Makes a session for one more caller. A store has at most [`Limits::sessions`] sessions at one
+    /// time.
     ///
-    /// ```
-    /// # use narwhal_store::{Committee, PublicKey};
-    /// use narwhal_store::{Limits, Store};
-    ///
-    /// # let committee = Committee::equal(&[PublicKey([7; 32])])?;
-    /// let store = Store::builder(&committee)
-    ///     .limits(Limits { window: 64, ..Limits::default() })
-    ///     .restart_when(Store::HISTORY_BYTES, 2)
-    ///     .open()?;
-    /// let mut session = store.session()?;
-    /// for _ in 0..3 {
-    ///     drop(session.status()?);
-    /// }
-    /// // The third call found two events, and began a new history.
-    /// assert_eq!(store.events(), 1);
-    /// # Ok::<(), Box<dyn std::error::Error>>(())
-    /// ```
-    pub fn builder(committee: &Committee) -> StoreBuilder {
-        StoreBuilder::new(committee)
-    }
-
-    /// Makes a session for one more caller. A store makes at most [`Limits::sessions`] sessions. It
-    /// never uses the number of a dropped session again.
+    /// If a session was dropped, the new one continues its calls and has its number. For the proofs,
+    /// both are one session.
     ///
     /// # Errors
     ///
-    /// - [`OpenError::TooManySessions`] if the store has made as many sessions as its limit.
+    /// - [`OpenError::TooManySessions`] if the store has as many sessions as its limit.
     /// - [`OpenError::NoMemory`] if the library could not allocate memory.
     pub fn session(&self) -> Result<Session, OpenError> {
-        let mut store = self.inner.store.lock();
-        let mut turn = self.inner.turns.take();
-        let open = |out: &mut Handle| again(|| ffi::nw_store_session(&mut store, out));
-        let mut caller = Caller::new(Handle::opened(open)?);
-        turn.enter(&mut caller);
-        drop(turn);
-        Ok(Session::new(Arc::clone(&self.inner), caller))
+        let idle = self.inner.idle.lock().pop();
+        let caller = match idle {
+            Some(caller) => caller,
+            None => {
+                let mut store = self.inner.store.lock();
+                let _turn = self.inner.turns.take();
+                let open = |out: &mut Handle| again(|| ffi::nw_store_session(&mut store, out));
+                Caller::new(Handle::opened(open)?)
+            }
+        };
+        let mut session = Session::new(Arc::clone(&self.inner), caller);
+        session.renew()?;
+        Ok(session)
     }
 
     /// Rebuilds the list of blocks that causal reads share, without the collected blocks.
@@ -154,7 +135,7 @@ impl Store {
     /// Returns how many events the history has.
     #[must_use]
     pub fn events(&self) -> usize {
-        self.inner.turns.counts().events
+        self.inner.turns.told().0 as usize
     }
 
     /// Returns how many bytes the events of the history take.
@@ -174,15 +155,15 @@ impl Store {
     /// # let committee = Committee::equal(&[PublicKey([7; 32])])?;
     /// let store = Store::new(&committee, Limits::default())?;
     /// let mut session = store.session()?;
-    /// drop(session.status()?);
+    /// let _ = session.status()?;
     /// assert_eq!(store.history_bytes(), 150);
-    /// drop(session.restart()?);
+    /// let _ = session.restart()?;
     /// assert_eq!(store.history_bytes(), 0);
     /// # Ok::<(), Box<dyn std::error::Error>>(())
     /// ```
     #[must_use]
     pub fn history_bytes(&self) -> u64 {
-        self.inner.turns.counts().bytes
+        self.inner.turns.told().1
     }
 
     /// Returns how many calls have changed the store: writes that answered `Stored`, certificates that
@@ -192,7 +173,7 @@ impl Store {
     /// changed 0 times.
     #[must_use]
     pub fn changes(&self) -> u64 {
-        self.inner.turns.counts().changes
+        self.inner.turns.changes.count()
     }
 
     /// Waits until the store has changed more than `seen` times, and returns how often it has
@@ -206,12 +187,12 @@ impl Store {
     ///
     /// ```
     /// # mod data { include!(concat!(env!("CARGO_MANIFEST_DIR"), "/examples/data/mod.rs")); }
-    /// # use narwhal_store::{Checked, Committee, Limits, Message, Store};
+    /// # use narwhal_store::{Checked, Committee, Limits, Store};
     /// # let committee = Committee::equal(&data::keys())?;
     /// # let store = Store::new(&committee, Limits::default())?;
     /// # let mut session = store.session()?;
     /// # let messages = data::values("message");
-    /// # let Checked::Block(block) = Message::check(&committee, &messages[0])? else { panic!() };
+    /// # let Checked::Block(block) = committee.check(&messages[0])? else { panic!() };
     /// use std::{thread, time::Duration};
     ///
     /// let (subject, mut reader) = (block.subject(), store.session()?);
@@ -223,13 +204,41 @@ impl Store {
     ///         seen = changes;
     ///     }
     /// });
-    /// drop(session.write(&block)?);
+    /// let _ = session.write(&block)?;
     /// waiter.join().unwrap();
     /// # Ok::<(), Box<dyn std::error::Error>>(())
     /// ```
     #[must_use]
     pub fn wait_for_change(&self, seen: u64, timeout: Duration) -> u64 {
-        self.inner.turns.wait(seen, timeout)
+        self.inner.turns.changes.wait(seen, timeout)
+    }
+
+    /// Returns a future that is ready once the store has changed more than `seen` times. Its output
+    /// is how often the store has [changed](Store::changes).
+    ///
+    /// It does what [`wait_for_change`](Store::wait_for_change) does, for any executor, and without a
+    /// thread. Drop the future to end the wait. It keeps no store in memory.
+    ///
+    /// The thread that makes a change wakes the tasks, after its turn and before its call returns.
+    ///
+    /// ```
+    /// # use narwhal_store::{Committee, Limits, PublicKey, Store};
+    /// # let committee = Committee::equal(&[PublicKey([7; 32])])?;
+    /// # let store = Store::new(&committee, Limits::default())?;
+    /// async fn wait_for_round(store: &Store, session: &mut narwhal_store::Session, round: u64) {
+    ///     let mut seen = store.changes();
+    ///     while session.look(0, 0).garbage_round < round {
+    ///         seen = store.changed(seen).await;
+    ///     }
+    /// }
+    /// # let mut session = store.session()?;
+    /// # let wait = wait_for_round(&store, &mut session, 0);
+    /// # let mut context = std::task::Context::from_waker(std::task::Waker::noop());
+    /// # assert!(std::pin::pin!(wait).poll(&mut context).is_ready());
+    /// # Ok::<(), Box<dyn std::error::Error>>(())
+    /// ```
+    pub fn changed(&self, seen: u64) -> Changed {
+        Changed::new(&self.inner.turns.changes, seen)
     }
 
     /// Returns the limits that the store was opened with.
@@ -246,7 +255,8 @@ impl Store {
 }
 
 impl Inner {
-    /// Makes the session's next call. The room for its answer was made before.
+    /// Makes the session's next call, and returns its answer. The room for the answer is made before
+    /// the call, so that no event loses its answer.
     ///
     /// This is the only place that decides whether the history restarts. If there is no memory for
     /// the restart, the call goes on without it, and the next call tries again.
@@ -255,69 +265,60 @@ impl Inner {
         &self,
         caller: &mut Caller,
         content: EventContent,
-        room: &mut Room,
         mut call: impl FnMut(&mut Handle, &mut Handle) -> Code,
-    ) -> Result<(), StepError> {
+    ) -> Result<Handle, StepError> {
+        let mut answer = Handle::answer()?;
         let mut turn = self.turns.take();
-        let mut old = Ok(None);
-        if self.is_due(&mut turn, content) {
-            old = self.restart_due(&mut turn, caller, content, room);
-        }
-        let mut code = turn.call(caller, |session| call(session, room));
+        let mut old = self.restart_due(&mut turn, caller, content);
+        let mut code = turn.call(caller, |session| call(session, &mut answer));
         // Without turns, the history can be full before all its events are counted.
         while code == Code::HISTORY_FULL && self.restart_when.is_some() && old.is_ok() {
-            let replaced = room.replace();
-            old = replaced.and_then(|last| self.restart(&mut turn, caller, last));
-            code = turn.call(caller, |session| call(session, room));
+            old = self.restart(&mut turn, caller);
+            code = turn.call(caller, |session| call(session, &mut answer));
         }
-        let wakes = code == Code::DONE && {
-            let (bytes, is_change) = content.outcome(room);
-            turn.count(caller, bytes, is_change)
-        };
+        let mut is_change = false;
+        if code == Code::DONE {
+            let bytes;
+            (bytes, is_change) = content.outcome(&mut answer);
+            turn.counts(|counts| counts.count(caller.run(), bytes));
+        }
         drop(turn);
-        if wakes {
-            self.turns.wake();
+        if is_change {
+            self.turns.changes.note();
         }
         match (old, code) {
             (Err(_), Code::HISTORY_FULL) => Err(StepError::NoMemory),
-            (_, code) => Ok(code.done()?),
+            (_, code) => Ok(code.done().map(|()| answer)?),
         }
     }
 
-    /// Whether the history restarts before a call with this content.
-    #[inline]
-    fn is_due(&self, turn: &mut Turn, content: EventContent) -> bool {
-        let is_met = |when: RestartWhen| {
-            turn.counts(|counts| when.is_met(counts.events, counts.bytes, content))
-        };
-        self.restart_when.is_some_and(is_met)
-    }
-
     /// Restarts the history until the call with this content fits.
-    #[cold]
+    #[inline]
     fn restart_due(
         &self,
         turn: &mut Turn,
         caller: &mut Caller,
         content: EventContent,
-        room: &mut Room,
-    ) -> Result<Option<Old>, Code> {
-        let mut old = None;
-        while self.is_due(turn, content) {
-            old = self.restart(turn, caller, room.replace()?)?;
+    ) -> Result<Option<Handle>, Code> {
+        let (mut old, is_due) = (None, |counts: &mut Counts| {
+            self.restart_when
+                .is_some_and(|when| when.is_met(counts, content))
+        });
+        while turn.counts(is_due) {
+            old = self.restart(turn, caller)?;
         }
         Ok(old)
     }
 
-    /// Ends the session's run, and returns what is left of its history, of which `last` gets the
-    /// whole. If the run has ended already, this takes the session into the present run instead.
+    /// Ends the session's run, and returns its history, which is dropped after the turn: that often
+    /// frees it. If the run has ended already, this takes the session into the present run instead.
     #[cold]
     pub(crate) fn restart(
         &self,
         turn: &mut Turn,
         caller: &mut Caller,
-        mut last: Handle,
-    ) -> Result<Option<Old>, Code> {
+    ) -> Result<Option<Handle>, Code> {
+        let mut last = Handle::answer()?;
         let code = caller.call(|session| ffi::nw_session_restart(session, &mut last));
         if code == Code::ENDED {
             turn.renew(caller).done()?;
@@ -325,24 +326,15 @@ impl Inner {
         }
         code.done()?;
         turn.enter(caller);
-        Ok(Some([last, self.spare.take()]))
+        Ok(Some(last))
     }
 }
 
-impl fmt::Debug for Store {
-    fn fmt(&self, f: &mut fmt::Formatter<'_>) -> fmt::Result {
-        f.debug_struct("Store")
-            .field("limits", &self.inner.limits)
-            .field("restart_when", &self.inner.restart_when)
-            .finish_non_exhaustive()
-    }
-}
+debug_by!(Store: limits, events, changes);
 
 #[cfg(test)]
 mod tests {
-    use crate::ffi;
     use crate::lock::tests::panic_under;
-    use crate::room::{EventContent, Room};
     use crate::{Committee, Digest, Limits, PublicKey, Session, StepError, Store};
     use std::sync::Mutex;
     use std::thread;
@@ -386,7 +378,7 @@ mod tests {
             assert_eq!(store.history_bytes(), 150 * store.events() as u64);
         }
         // An event that may take more than the bound has a history of its own.
-        drop(session.missing(100).unwrap());
+        let _ = session.missing(100).unwrap();
         assert_eq!((store.events(), store.history_bytes()), (1, 150));
     }
 
@@ -399,12 +391,12 @@ mod tests {
         let builder = Store::builder(&committee()).limits(limits);
         let store = builder.never_restart().open().unwrap();
         let mut session = store.session().unwrap();
-        drop(session.status().unwrap());
-        drop(session.status().unwrap());
+        let _ = session.status().unwrap();
+        let _ = session.status().unwrap();
         let refused = session.status().unwrap_err();
         assert_eq!(refused, StepError::HistoryFull);
         drop(session.restart().unwrap());
-        drop(session.status().unwrap());
+        let _ = session.status().unwrap();
     }
 
     #[test]
@@ -412,7 +404,7 @@ mod tests {
         let store = Store::new(&committee(), Limits::default()).unwrap();
         let mut session = store.session().unwrap();
         panic_under(|| (store.inner.store.lock(), store.inner.turns.take()));
-        drop(session.status().unwrap());
+        let _ = session.status().unwrap();
         assert_eq!(store.events(), 1);
         store.compact().unwrap();
         drop(session.restart().unwrap());
@@ -425,15 +417,15 @@ mod tests {
         let store = Store::new(&committee(), Limits::default()).unwrap();
         let mut session = store.session().unwrap();
         let short = Duration::from_millis(1);
-        drop(session.status().unwrap());
-        drop(session.collect(0).unwrap());
+        let _ = session.status().unwrap();
+        let _ = session.collect(0).unwrap();
         drop(session.restart().unwrap());
         store.compact().unwrap();
         assert_eq!((store.changes(), store.wait_for_change(0, short)), (0, 0));
-        drop(session.collect(1).unwrap());
+        let _ = session.collect(1).unwrap();
         assert_eq!(store.wait_for_change(0, Duration::MAX), 1);
         assert_eq!(store.wait_for_change(1, short), 1);
-        assert_eq!(store.inner.turns.waiting(), 0);
+        assert_eq!(store.inner.turns.changes.waiting(), (0, 0));
     }
 
     /// Each thread waits for each of 100 changes, and none is missed.
@@ -458,28 +450,9 @@ mod tests {
                 });
             }
             for round in 1..=100 {
-                drop(session.collect(round).unwrap());
+                let _ = session.collect(round).unwrap();
             }
         });
         assert_eq!(store.changes(), 100);
-    }
-
-    /// Another thread can drop an answer between the start of a call and its restart. That answer's
-    /// history is then freed too.
-    #[test]
-    fn an_automatic_restart_keeps_no_spare_answer() {
-        let builder = Store::builder(&committee()).restart_when(u64::MAX, 1);
-        let store = builder.open().unwrap();
-        let mut session = store.session().unwrap();
-        let answer = session.status().unwrap();
-        let mut room = Room::new(&store.inner.spare).unwrap();
-        drop(answer);
-        let status = |own: &mut _, answer: &mut _| ffi::nw_session_status(own, answer);
-        let stepped = store
-            .inner
-            .step(&mut session.caller, EventContent::Small, &mut room, status);
-        stepped.unwrap();
-        assert_eq!(store.events(), 1);
-        assert!(store.inner.spare.take().is_closed());
     }
 }

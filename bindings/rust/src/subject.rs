@@ -30,15 +30,6 @@ pub struct Subject {
     pub author: u16,
 }
 
-impl Subject {
-    /// A subject for the library to write into.
-    pub(crate) const EMPTY: Subject = Subject {
-        digest: Digest::ZERO,
-        round: 0,
-        author: 0,
-    };
-}
-
 impl Ord for Subject {
     fn cmp(&self, other: &Subject) -> Ordering {
         let key = |subject: &Subject| (subject.round, subject.author, subject.digest);

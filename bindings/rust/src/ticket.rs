@@ -5,7 +5,6 @@ use crate::debug::debug_by;
 use crate::error::coded_error;
 use crate::ffi::{self, Handle};
 use crate::history::both;
-use crate::room::Room;
 use crate::{Block, Digest, History, NoMemory, Walk};
 use std::cell::Cell;
 use std::marker::PhantomData;
@@ -21,11 +20,6 @@ use std::ptr;
 /// only those of its list. Drop it when you no longer need it.
 ///
 /// The type is `Send`, so another thread can walk it, and it is not `Sync`.
-///
-/// ```compile_fail,E0277
-/// fn shared<T: Sync>() {}
-/// shared::<narwhal_store::Ticket>();
-/// ```
 pub struct Ticket {
     history: History,
     /// Threads that share a ticket would wait for each other, but a walk waits for nobody.
@@ -33,9 +27,9 @@ pub struct Ticket {
 }
 
 impl Ticket {
-    pub(crate) fn new(room: Room) -> Ticket {
+    pub(crate) fn new(handle: Handle) -> Ticket {
         Ticket {
-            history: History::new(room),
+            history: History::new(handle),
             is_not_shared: PhantomData,
         }
     }
@@ -54,8 +48,8 @@ impl Ticket {
     }
 
     fn about(&self) -> (Digest, u64) {
-        let (mut digest, mut garbage_round) = (Digest::ZERO, 0);
-        let handle = &mut self.history.room();
+        let (mut digest, mut garbage_round) = (Digest([0; 32]), 0);
+        let handle = &mut self.history.handle();
         ffi::nw_ticket_scope(handle, &mut digest, &mut garbage_round).or_abort();
         (digest, garbage_round)
     }
@@ -76,7 +70,7 @@ impl Ticket {
     /// # let (mut session, certified) = data::filled()?;
     /// # let last = certified[certified.len() - 1];
     /// let ticket = session.causal(&last)?.into_ticket()?;
-    /// drop(session.collect(1)?); // It drops the blocks of round 0, but not from the ticket.
+    /// let _ = session.collect(1)?; // It drops the blocks of round 0, but not from the ticket.
     /// let walker = std::thread::spawn(move || ticket.walk());
     /// let blocks: Vec<_> = walker.join().unwrap()?.collect();
     /// assert_eq!(blocks[0].round(), 0);
@@ -84,7 +78,7 @@ impl Ticket {
     /// # Ok::<(), Box<dyn std::error::Error>>(())
     /// ```
     pub fn walk(&self) -> Result<Walk, NoMemory> {
-        let ticket = &mut self.history.room();
+        let ticket = &mut self.history.handle();
         let mut list = Handle::opened(|out| ffi::nw_ticket_walk(ticket, out))?;
         let mut len = 0;
         ffi::nw_list_len(&mut list, &mut len).done()?;
@@ -160,7 +154,7 @@ fn agreement(code: Code, same: bool) -> Result<bool, AgreeError> {
 debug_by!(Ticket: digest, garbage_round);
 
 /// Why two tickets cannot be compared.
-#[derive(Clone, Copy, Debug, PartialEq, Eq)]
+#[derive(Clone, Copy, Debug, PartialEq, Eq, Hash)]
 #[non_exhaustive]
 pub enum AgreeError {
     /// The tickets are for two digests, or have two garbage rounds.

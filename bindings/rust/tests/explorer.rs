@@ -2,12 +2,8 @@
 
 #[path = "explorer/client.rs"]
 mod client;
-#[path = "../examples/data/mod.rs"]
-mod data;
 #[path = "hostile/decide.rs"]
 mod decide;
-#[path = "../examples/flow/mod.rs"]
-mod flow;
 #[path = "../examples/explorer/http.rs"]
 mod http;
 #[path = "../examples/explorer/json.rs"]
@@ -15,8 +11,6 @@ mod json;
 mod lab;
 #[path = "../examples/explorer/log.rs"]
 mod log;
-#[path = "../examples/network/mod.rs"]
-mod network;
 #[path = "../examples/explorer/node.rs"]
 mod node;
 #[path = "../examples/explorer/post.rs"]
@@ -121,6 +115,12 @@ fn a_block_shows_its_parts_its_votes_and_its_history() {
     assert_eq!(written.get("reply"), last.get("reply"));
     assert!(history.len() as u64 <= written.number("length"));
     assert!(history.len() > 10, "{} events", history.len());
+    let sessions: BTreeSet<u64> = history
+        .iter()
+        .map(|event| event.number("session"))
+        .collect();
+    // The looks of the other two sessions are no events, and the calls of the page are left out.
+    assert!(sessions.contains(&0) && !sessions.contains(&2));
     assert_eq!(
         explorer
             .ask("GET", &format!("/block?store=2&digest={}", "0".repeat(64)))
@@ -139,12 +139,11 @@ fn of_two_blocks_of_a_round_at_most_one_is_certified() {
     for store in STORES {
         let slot = explorer.slot(store, round, 1);
         let states: BTreeSet<&str> = slot.iter().map(|shown| &*shown.state).collect();
-        let first = if store == 2 { "missing" } else { "complete" }; // Validator 2 got the twin first.
-        assert_eq!(
-            states,
-            BTreeSet::from(["equivocating", first]),
-            "store {store}"
-        );
+        let [first, twin] = match store {
+            2 => ["not stored", "stored"], // Validator 2 got the twin first.
+            _ => ["complete", "not stored"],
+        };
+        assert_eq!(states, BTreeSet::from([first, twin]), "store {store}");
     }
     explorer.step(3);
     let mut certified = BTreeSet::new();
@@ -153,10 +152,10 @@ fn of_two_blocks_of_a_round_at_most_one_is_certified() {
         assert_eq!(slot.len(), 2, "store {store}");
         for shown in slot {
             let signers = explorer.signers(store, &shown.digest);
-            let expected = if signers.is_some() {
-                "complete"
-            } else {
-                "equivocating"
+            let expected = match store {
+                _ if signers.is_some() => "complete",
+                2 => "stored",
+                _ => "not stored",
             };
             assert_eq!(shown.state, expected, "store {store}");
             let reply = explorer
@@ -225,14 +224,17 @@ fn a_lost_block_is_fetched_and_becomes_complete() {
     let explorer = Explorer::paused();
     let asked = explorer.state(3).number("asked");
     explorer.act("lose", 3);
+    assert!(explorer.state(3).is("loses") && !explorer.state(2).is("loses"));
     explorer.step(1);
-    let missing: Vec<_> = explorer
+    assert!(!explorer.state(3).is("loses"));
+    assert_eq!(explorer.state(3).get("content").number("absent"), 1);
+    let absent: Vec<_> = explorer
         .blocks(3)
         .into_iter()
-        .filter(|shown| shown.state == "missing")
+        .filter(|shown| shown.state == "not stored")
         .collect();
-    let [lost] = &missing[..] else {
-        panic!("one block is missing: {missing:?}");
+    let [lost] = &absent[..] else {
+        panic!("one block is not stored: {absent:?}");
     };
     assert_eq!(lost.round, explorer.round(3));
     assert_eq!(*explorer.block(3, &lost.digest).get("written"), Value::Null);
@@ -247,7 +249,11 @@ fn a_lost_block_is_fetched_and_becomes_complete() {
         Some("complete")
     );
     assert_eq!(explorer.state(3).number("asked"), asked + 1);
-    assert_eq!(explorer.state(3).get("content").number("missing"), 0);
+    let content = explorer.state(3).get("content").clone();
+    assert_eq!(
+        (content.number("missing"), content.number("absent")),
+        (0, 0)
+    );
 }
 
 /// Validator 3 is silent and validator 1 makes two blocks, so none of the two is certified. Validator 2 votes for one of them, crashes,

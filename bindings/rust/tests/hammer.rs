@@ -8,7 +8,7 @@
 mod lab;
 
 use lab::Com;
-use narwhal_store::{Call, Causal, Checked, Event, History, Limits, Message, Reply};
+use narwhal_store::{Call, Causal, Checked, Event, History, Limits, Reply};
 use narwhal_store::{Session, Store, Subject, WriteReply};
 use std::collections::{BTreeMap, HashMap};
 use std::hash::{DefaultHasher, Hash, Hasher};
@@ -18,7 +18,7 @@ use std::thread;
 
 const THREADS: usize = 4;
 /// How many calls each thread makes. All of them fit into the largest history.
-const CALLS: usize = 15_000;
+const CALLS: usize = if cfg!(debug_assertions) { 400 } else { 15_000 };
 const MEMBERS: u16 = 4;
 const ROUNDS: u64 = 8;
 /// The round that the callers collect to.
@@ -64,7 +64,7 @@ impl Network {
     }
 
     fn checked(&self) -> Vec<Checked> {
-        let check = |message: &Vec<u8>| Message::check(&self.com.committee, message);
+        let check = |message: &Vec<u8>| self.com.committee.check(message);
         let checked = self.messages.iter().map(check);
         checked.map(|checked| checked.expect("a message")).collect()
     }
@@ -214,7 +214,7 @@ impl Seen {
     fn of(history: &History, session: u16, call: Call, reply: Option<Reply>) -> Seen {
         let (mut calls, mut hasher, mut before) = ([0; 256], DefaultHasher::new(), 0);
         let mut last = None;
-        for event in history {
+        for event in history.events() {
             let number = &mut calls[usize::from(event.session)];
             *number += 1;
             assert_eq!(event.number, *number, "the number of {event:?}");

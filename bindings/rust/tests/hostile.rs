@@ -6,6 +6,8 @@
 //! SEEDS=10000 cargo test --release --test hostile        the first 10,000 seeds
 //! ```
 
+#[path = "hostile/budgets.rs"]
+mod budgets;
 #[path = "hostile/costs.rs"]
 mod costs;
 #[path = "hostile/decide.rs"]
@@ -16,19 +18,21 @@ mod drops;
 mod faulty;
 #[path = "hostile/floods.rs"]
 mod floods;
-#[path = "../examples/flow/mod.rs"]
-mod flow;
+#[path = "hostile/heard.rs"]
+mod heard;
 #[path = "hostile/honest.rs"]
 mod honest;
 mod lab;
-#[path = "../examples/log/mod.rs"]
-mod log;
 #[path = "hostile/logs.rs"]
 mod logs;
+#[path = "hostile/rounds.rs"]
+mod rounds;
 #[path = "hostile/seeds.rs"]
 mod seeds;
 #[allow(dead_code)] // Only the simulator tallies.
 #[path = "simulator/draw.rs"]
 mod simulator_draw;
+#[path = "hostile/votes.rs"]
+mod votes;
 #[path = "hostile/world.rs"]
 mod world;

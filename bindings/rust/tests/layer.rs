@@ -1,22 +1,20 @@
-//! Small faults that the Rust layer could have, each with one test: weights, limits, iterators, restarts, settlements, and the library that
-//! build.rs links.
+//! Small faults that the Rust layer could have, each with one test: weights, limits, iterators, restarts and settlements.
 
 mod lab;
 
 use lab::Com;
 use narwhal_store::{
-    AgreeError, Checked, CheckedBlock, Gather, GatherError, Limits, Member, Message, OpenError,
+    AgreeError, Block, Checked, CheckedBlock, CheckedCertificate, Digest, Gather, GatherError,
+    Limits, Member, OpenError,
 };
 use narwhal_store::{Call, Event, PublicKey, Reply, Session, SettleError, Store, Subject, Ticket};
 use narwhal_store::{Note, WriteReply};
+use std::collections::HashSet;
 use std::fmt::Debug;
-use std::fs;
-use std::path::{Path, PathBuf};
-use std::process::{Command, Output};
 use std::thread;
 
 fn checked(com: &Com, message: &[u8]) -> Checked {
-    Message::check(&com.committee, message).expect("a message")
+    com.committee.check(message).expect("a message")
 }
 
 #[test]
@@ -39,7 +37,7 @@ fn a_member_votes_with_its_weight() {
     gather.certificate().expect("a certificate");
     // Three members of weight 1 are three of four members, and have half of the votes.
     let light = com.certificate(&subject, &[1, 2, 3]);
-    Message::check(committee, &light).expect_err("too few votes");
+    committee.check(&light).expect_err("too few votes");
     let Checked::Certificate(heavy) = checked(&com, &com.certificate(&subject, &[0, 1, 3])) else {
         panic!("the message is a certificate");
     };
@@ -99,6 +97,302 @@ fn a_store_has_the_limits_that_it_was_opened_with() {
             assert_eq!(refused, Some(OpenError::BadLimits), "{limits:?}");
         }
     }
+}
+
+/// Nobody fills a store of the default limits: 100 members have a block a round, and 33 faulty ones a second one with a certificate.
+#[test]
+fn the_default_limits_have_room_for_the_largest_committee() {
+    let limits = Limits::default();
+    assert!(limits.window * (100 + 33) <= limits.blocks && limits.window >= 480);
+    assert_eq!((limits.blocks, limits.events), (65_536, 65_536));
+}
+
+/// A block with three missing parents, and a certificate of it that was gathered.
+fn gathered(com: &Com) -> (CheckedBlock, CheckedCertificate) {
+    let parents = [0, 1, 2].map(|author| (author, Digest([author as u8; 32])));
+    let (message, subject) = com.block(3, 1, &parents, &[vec![7; 500]]);
+    let mut gather = Gather::new(&com.committee, &subject).expect("a gatherer");
+    for signer in [3, 0, 2] {
+        match checked(com, &com.vote(&subject, signer)) {
+            Checked::Vote(vote) => drop(gather.add(&vote).expect("a vote")),
+            other => panic!("{other:?}"),
+        }
+    }
+    let certificate = gather.certificate().expect("a certificate");
+    match checked(com, &message) {
+        Checked::Block(block) => (block, certificate),
+        other => panic!("{other:?}"),
+    }
+}
+
+/// A call: the bytes that its event can take, those that it takes, and whether it is a change.
+type Counted<'a> = (&'a dyn Fn(&mut Session), u64, u64, bool);
+
+#[test]
+fn each_call_has_the_bytes_of_its_event_and_may_be_a_change() {
+    let com = Com::new(4);
+    let (block, certificate) = gathered(&com);
+    let digest = block.subject().digest;
+    let [of_block, of_certificate] =
+        [block.message(), certificate.message()].map(|message| 250 + message.len() as u64);
+    let all = 150 + 48 * 100;
+    let calls: [Counted; 14] = [
+        (
+            &|own| drop(own.write(&block).expect("a write")),
+            of_block,
+            of_block,
+            true,
+        ),
+        (
+            &|own| drop(own.write(&block).expect("a write")),
+            of_block,
+            150,
+            false,
+        ),
+        (
+            &|own| drop(own.missing(2).expect("a list")),
+            150 + 48 * 2,
+            150 + 48 * 2,
+            false,
+        ),
+        (
+            &|own| drop(own.missing(9).expect("a list")),
+            150 + 48 * 9,
+            150 + 48 * 3,
+            false,
+        ),
+        (
+            &|own| drop(own.missing_of(&digest).expect("a list")),
+            all,
+            150 + 48 * 3,
+            false,
+        ),
+        (
+            &|own| drop(own.certify(&certificate).expect("a certificate")),
+            of_certificate,
+            of_certificate,
+            true,
+        ),
+        (
+            &|own| drop(own.certify(&certificate).expect("a certificate")),
+            of_certificate,
+            150,
+            false,
+        ),
+        (
+            &|own| drop(own.read(&digest).expect("a read")),
+            150,
+            150,
+            false,
+        ),
+        (
+            &|own| drop(own.certificate(&digest).expect("a lookup")),
+            150,
+            150,
+            false,
+        ),
+        (
+            &|own| drop(own.causal(&digest).expect("a causal read")),
+            150,
+            150,
+            false,
+        ),
+        (
+            &|own| drop(own.status().expect("a status")),
+            150,
+            150,
+            false,
+        ),
+        (
+            &|own| drop(own.collect(1).expect("a collection")),
+            150,
+            150,
+            true,
+        ),
+        (
+            &|own| drop(own.collect(1).expect("a collection")),
+            150,
+            150,
+            false,
+        ),
+        (
+            &|own| drop(own.missing_of(&digest).expect("a list")),
+            all,
+            150,
+            false,
+        ),
+    ];
+    let (store, mut own) = sessions(&com, 1);
+    let (mut bytes, mut changes) = (0, 0);
+    for (place, (call, most, taken, is_change)) in calls.into_iter().enumerate() {
+        call(&mut own[0]);
+        (bytes, changes) = (bytes + taken, changes + u64::from(is_change));
+        assert_eq!(
+            (store.history_bytes(), store.changes()),
+            (bytes, changes),
+            "call {place}"
+        );
+        // After two calls, the history restarts exactly if the event may exceed the bound.
+        for (spare, events) in [(0, 3), (1, 1)] {
+            let builder = Store::builder(&com.committee).restart_when(300 + most - spare, u32::MAX);
+            let mut session = builder
+                .open()
+                .and_then(|store| store.session())
+                .expect("a session");
+            for call in [calls[10].0, calls[10].0, call] {
+                call(&mut session);
+            }
+            let note = session.note().expect("a note");
+            assert_eq!(
+                note.history().len(),
+                events,
+                "call {place} with {spare} bytes less"
+            );
+        }
+    }
+}
+
+/// A call of a session whose run has ended restarts the present history, if that is due.
+#[test]
+fn a_call_in_a_new_run_restarts_a_full_history() {
+    let com = Com::new(1);
+    let builder = Store::builder(&com.committee).restart_when(300, u32::MAX);
+    let store = builder.open().expect("a store");
+    let [mut one, mut other] = [(); 2].map(|()| store.session().expect("a session"));
+    for events in [1, 2, 1, 2] {
+        let _ = one.status().expect("a status");
+        assert_eq!(store.events(), events);
+    }
+    assert_eq!((one.run(), other.run()), (1, 0));
+    let _ = other.status().expect("a status");
+    assert_eq!(
+        (other.run(), store.events(), store.history_bytes()),
+        (2, 1, 150)
+    );
+}
+
+#[test]
+fn the_largest_committee_has_a_look_and_a_vote_for_each_member() {
+    let com = Com::new(100);
+    let all: Vec<u16> = (0..100).collect();
+    let (_, mut own) = sessions(&com, 1);
+    let mut last = None;
+    for &author in &all {
+        let (message, subject) = com.block(author, 0, &[], &[]);
+        match checked(&com, &message) {
+            Checked::Block(block) => drop(own[0].write(&block).expect("a write")),
+            other => panic!("{other:?}"),
+        }
+        last = Some(subject);
+    }
+    let looks = own[0].look_round(0).expect("memory");
+    assert!(
+        looks
+            .iter()
+            .map(|(author, _)| *author)
+            .eq(all.iter().copied())
+    );
+    assert_eq!(looks[99].1.first, last.map(|subject| subject.digest));
+    let message = com.certificate(&last.expect("a subject"), &all);
+    let Checked::Certificate(certificate) = checked(&com, &message) else {
+        panic!("the message is a certificate");
+    };
+    assert_eq!(certificate.signers(), all);
+}
+
+/// A round of 2^48 or more has no block, and its look has the garbage round.
+#[test]
+fn a_look_at_no_round_is_empty() {
+    let com = Com::new(1);
+    let (_, mut own) = sessions(&com, 1);
+    let _ = own[0].collect(4).expect("a collection");
+    for round in [4, (1 << 48) - 1, 1 << 48, u64::MAX] {
+        let look = own[0].look(round, 0);
+        assert_eq!(
+            (look.garbage_round, look.first, look.certified, look.stands),
+            (4, None, None, false)
+        );
+        assert_eq!(own[0].look_round(round), Ok(Vec::new()));
+    }
+}
+
+/// The next session of a store continues one that was dropped, also in a later run.
+#[test]
+fn a_dropped_session_is_continued() {
+    let com = Com::new(1);
+    let limits = Limits {
+        sessions: 2,
+        ..Limits::default()
+    };
+    let store = Store::new(&com.committee, limits).expect("a store");
+    let mut one = store.session().expect("a session");
+    for round in 1..=300 {
+        let mut other = store.session().expect("a session");
+        assert!(matches!(store.session(), Err(OpenError::TooManySessions)));
+        let answer = other.collect(round).expect("a collection");
+        let event = answer.history().events().next_back().expect("an event");
+        let number = if round > 200 { round - 200 } else { round };
+        assert_eq!(
+            (other.id(), event.session, event.number),
+            (1, 1, number as u32)
+        );
+        drop(other);
+        if round == 200 {
+            let ended = one.restart().expect("a restart");
+            assert_eq!(ended.history().len(), 200);
+        }
+    }
+    let other = store.session().expect("a session");
+    assert_eq!((other.id(), other.run()), (1, 1));
+    let settled = Store::settle(vec![other, one]).expect("all sessions");
+    assert_eq!(
+        (settled.journal(0).count(), settled.journal(1).count()),
+        (0, 100)
+    );
+}
+
+#[test]
+#[allow(clippy::mutable_key_type)] // A lock of a value changes nothing of its hash.
+fn values_are_equal_if_their_bytes_are() {
+    let com = Com::new(4);
+    let again = Com::new(4);
+    let subjects = [b"one", b"two"].map(|text| com.block(0, 0, &[], &[text.to_vec()]).1);
+    let message = |text: &[u8]| com.block(0, 0, &[], &[text.to_vec()]).0;
+    let texts = [
+        message(b"one"),
+        message(b"two"),
+        com.certificate(&subjects[0], &[0, 1, 2]),
+        com.certificate(&subjects[0], &[0, 1, 3]),
+        com.certificate(&subjects[1], &[0, 1, 2]),
+        com.vote(&subjects[0], 0),
+        com.vote(&subjects[0], 1),
+        com.vote(&subjects[1], 0),
+    ];
+    let [all, others] = [&com, &again].map(|com| {
+        let checked = texts.iter().map(|text| checked(com, text));
+        checked.collect::<Vec<_>>()
+    });
+    for (place, one) in all.iter().enumerate() {
+        for (other_place, other) in others.iter().enumerate() {
+            assert_eq!(one == other, place == other_place, "{one:?} and {other:?}");
+        }
+    }
+    let kept: HashSet<Checked> = all.iter().chain(&others).cloned().collect();
+    assert_eq!(kept.len(), texts.len());
+    let [Checked::Block(one), Checked::Block(two)] = &all[..2] else {
+        panic!("the first two messages are blocks");
+    };
+    assert!(one.block() == one.block() && one.block() != two.block());
+    assert_eq!(
+        HashSet::from([one.block(), one.block().clone(), two.block()]).len(),
+        2
+    );
+    let weighted = Com::weighted(&[1, 1, 1, 2]).committee;
+    assert!(com.committee == again.committee && com.committee != weighted);
+    assert_eq!(
+        HashSet::from([com.committee.clone(), again.committee.clone(), weighted]).len(),
+        2
+    );
 }
 
 /// A store with a chain of complete blocks, one for each round, and their subjects.
@@ -178,6 +472,73 @@ fn events_and_walks_go_each_way() {
     );
 }
 
+/// Clones go on where they were cloned.
+#[test]
+fn clones_of_iterators_go_on_alone() {
+    let com = Com::new(1);
+    let (mut session, subjects) = chain(&com, 6);
+    let ticket = ticket(&mut session, &subjects[5]);
+    let (mut walk, mut events) = (ticket.walk().expect("a walk"), ticket.history().events());
+    let _ = (walk.next(), walk.next_back(), events.next());
+    let (kept, kept_events) = (walk.clone(), events.clone());
+    assert_eq!((walk.by_ref().count(), events.by_ref().count()), (4, 12));
+    assert!(
+        kept.map(|block| block.subject())
+            .eq(subjects[1..5].iter().copied())
+    );
+    assert_eq!((kept_events.len(), walk.len()), (12, 0));
+    let block = ticket.walk().expect("a walk").next().expect("a block");
+    let mut transactions = block.transactions();
+    assert_eq!(transactions.clone().count(), transactions.by_ref().count());
+}
+
+/// `walk_after` lists what only the later ticket lists, for each two of many tickets.
+#[test]
+fn a_walk_after_another_lists_the_rest() {
+    let com = Com::new(4);
+    let store = Store::new(&com.committee, Limits::default()).expect("a store");
+    let mut session = store.session().expect("a session");
+    let (mut before, mut tickets): (Vec<(u16, Digest)>, Vec<Ticket>) = Default::default();
+    for round in 0..3 {
+        let mut parents = Vec::new();
+        for author in 0..4 {
+            let mut own = before.clone();
+            if round > 0 {
+                own.remove(usize::from(author));
+            }
+            let (message, subject) = com.block(author, round, &own, &[]);
+            for message in [message, com.certificate(&subject, &[0, 1, 2])] {
+                match checked(&com, &message) {
+                    Checked::Block(block) => drop(session.write(&block).expect("a write")),
+                    Checked::Certificate(one) => {
+                        drop(session.certify(&one).expect("a certificate"))
+                    }
+                    Checked::Vote(vote) => panic!("{vote:?}"),
+                }
+            }
+            parents.push((author, subject.digest));
+            tickets.push(ticket(&mut session, &subject));
+        }
+        before = parents;
+        if round == 1 {
+            let _ = session.collect(1).expect("a collection");
+        }
+    }
+    for earlier in &tickets {
+        let seen: HashSet<_> = earlier
+            .walk()
+            .expect("a walk")
+            .map(|block| block.subject())
+            .collect();
+        for later in &tickets {
+            let all = later.walk().expect("a walk").map(|block| block.subject());
+            let rest: Vec<_> = all.filter(|subject| !seen.contains(subject)).collect();
+            let after = later.walk_after(earlier).expect("a walk");
+            assert!(after.iter().map(Block::subject).eq(rest));
+        }
+    }
+}
+
 #[test]
 fn tickets_of_two_blocks_or_garbage_rounds_are_not_compared() {
     let com = Com::new(1);
@@ -185,7 +546,7 @@ fn tickets_of_two_blocks_or_garbage_rounds_are_not_compared() {
     let [low, high, again] = [1, 2, 2].map(|round: usize| ticket(&mut session, &subjects[round]));
     assert_eq!(high.agrees(&again), Ok(true));
     assert_eq!(high.agrees(&low), Err(AgreeError::NotComparable));
-    drop(session.collect(1).expect("a collection"));
+    let _ = session.collect(1).expect("a collection");
     let collected = ticket(&mut session, &subjects[2]);
     assert_eq!(high.agrees(&collected), Err(AgreeError::NotComparable));
     assert_eq!((high.garbage_round(), collected.garbage_round()), (0, 1));
@@ -216,7 +577,7 @@ fn only_all_sessions_of_one_store_settle() {
     let (store, mut own) = sessions(&com, 3);
     let (_, mut others) = sessions(&com, 3);
     for session in &mut own {
-        drop(session.status().expect("a status"));
+        let _ = session.status().expect("a status");
     }
     assert!(does_not_settle(Vec::new(), SettleError::Missing).is_empty());
     for place in 0..3 {
@@ -251,7 +612,7 @@ fn sessions_settle_in_any_order_and_go_on() {
     let (store, mut own) = sessions(&com, 3);
     for round in 1..=4 {
         for at in [2, 0, 0] {
-            drop(own[at].collect(round).expect("a collection"));
+            let _ = own[at].collect(round).expect("a collection");
         }
         own.rotate_left(1);
         let settled = Store::settle(own).expect("all sessions");
@@ -317,13 +678,17 @@ fn a_restart_ends_the_run_of_all_sessions() {
     assert_eq!((one.run(), third.run(), store.events()), (1, 1, 0));
     assert!(empty.history().is_empty());
     assert_eq!(other.hear(&empty), Ok(true));
+    // A session of an ended run hears a note of the present one.
+    let present = other.restart().and_then(|_| other.note()).expect("a note");
+    assert_eq!((one.run(), one.hear(&present)), (1, Ok(true)));
+    assert_eq!(one.run(), 2);
     // Two restarts in a row, and one by a session of an ended run.
-    drop(third.status().expect("a status"));
+    let _ = third.status().expect("a status");
     assert_eq!(other.restart().expect("a restart").history().len(), 1);
     assert!(one.restart().expect("a restart").history().is_empty());
-    assert_eq!((one.run(), other.run(), store.changes()), (3, 2, 1));
-    drop(other.status().expect("a status"));
-    assert_eq!((other.run(), store.events()), (3, 1));
+    assert_eq!((one.run(), other.run(), store.changes()), (4, 3, 1));
+    let _ = other.status().expect("a status");
+    assert_eq!((other.run(), store.events()), (4, 1));
 }
 
 #[test]
@@ -331,8 +696,8 @@ fn a_note_of_another_store_is_not_heard() {
     let com = Com::new(1);
     let (store, mut own) = sessions(&com, 2);
     let (_, mut others) = sessions(&com, 1);
-    drop(own[0].collect(1).expect("a collection"));
-    drop(others[0].collect(2).expect("a collection"));
+    let _ = own[0].collect(1).expect("a collection");
+    let _ = others[0].collect(2).expect("a collection");
     let [note, foreign] =
         [&mut own[0], &mut others[0]].map(|session| session.note().expect("a note"));
     assert_eq!(own[1].hear(&foreign), Ok(false));
@@ -353,7 +718,7 @@ fn threads_that_share_notes_do_not_wait_for_ever() {
     let com = Com::new(1);
     let (_, mut own) = sessions(&com, 1);
     let early = own[0].note().expect("a note");
-    drop(own[0].status().expect("a status"));
+    let _ = own[0].status().expect("a status");
     let late = own[0].note().expect("a note");
     let compare = |one: &Note, other: &Note, is_prefix: bool| {
         for _ in 0..20_000 {
@@ -390,63 +755,12 @@ fn a_new_run_has_the_votes_and_none_of_the_calls_before() {
     assert_eq!(answer.history().len(), 1, "an answer of the ended run");
 }
 
-/// A run of build.rs for this target.
-fn command(script: &Path, target: &str) -> Command {
-    let mut command = Command::new(script);
-    command.env_remove("NW_LIB_DIR").env_remove("DOCS_RS");
-    command.env("TARGET", target);
-    command.env("CARGO_MANIFEST_DIR", env!("CARGO_MANIFEST_DIR"));
-    command
-}
-
-/// Runs build.rs for this target, and with the folder `NW_LIB_DIR` if it is given.
-fn build(script: &Path, target: &str, folder: Option<&Path>) -> Output {
-    let mut command = command(script, target);
-    if let Some(folder) = folder {
-        command.env("NW_LIB_DIR", folder);
-    }
-    command.output().expect("build.rs runs")
-}
-
+/// The library of another interface does not link: the crate refers to the function that is named for its own.
 #[test]
-fn build_rs_links_the_chosen_library_or_the_shipped_one_for_its_target() {
-    let room = PathBuf::from(env!("CARGO_TARGET_TMPDIR"));
-    let (script, chosen) = (room.join("build_script"), room.join("chosen"));
-    fs::create_dir_all(&chosen).expect("a folder");
-    fs::write(chosen.join("libnw_c.a"), "").expect("a library");
-    let source = concat!(env!("CARGO_MANIFEST_DIR"), "/build.rs");
-    let mut compiler = Command::new(option_env!("RUSTC").unwrap_or("rustc"));
-    compiler.args(["--edition=2024", source, "-o"]).arg(&script);
-    assert!(compiler.status().expect("rustc").success());
-    let (own, other) = ("x86_64-unknown-linux-gnu", "riscv64gc-unknown-linux-gnu");
-    let musl = "x86_64-unknown-linux-musl";
-    let said = |output: &Output| String::from_utf8_lossy(&output.stdout).into_owned();
-
-    for target in [own, musl, "aarch64-unknown-linux-gnu"] {
-        let shipped = build(&script, target, None);
-        assert!(shipped.status.success());
-        assert!(said(&shipped).contains("NW_ARCHIVE=shipped libnw.a sha256:"));
-    }
-    let refused = build(&script, other, None);
-    assert_eq!(refused.status.code(), Some(1));
-    let message = String::from_utf8_lossy(&refused.stderr);
-    assert!(
-        [own, musl].iter().all(|it| message.contains(it)),
-        "{message}"
-    );
-    let documents = command(&script, other).env("DOCS_RS", "1").output();
-    let documents = documents.expect("build.rs runs");
-    assert!(documents.status.success() && !said(&documents).contains("rustc-link"));
-    for target in [own, other] {
-        let linked = said(&build(&script, target, Some(&chosen)));
-        let folder = format!("rustc-link-search=native={}\n", chosen.display());
-        assert!(linked.contains(&folder), "{linked}");
-        assert!(
-            linked.contains("NW_ARCHIVE=NW_LIB_DIR libnw_c.a\n"),
-            "{linked}"
-        );
-    }
-    for folder in [Path::new("relative"), &room.join("missing")] {
-        assert_eq!(build(&script, own, Some(folder)).status.code(), Some(1));
-    }
+fn the_program_refers_to_the_interface_of_its_library() {
+    let path = std::env::current_exe().expect("a path");
+    let program = std::fs::read(path).expect("a program");
+    let name = b"nw_interface_";
+    let ends = |part: &[u8]| part.starts_with(name) && part[name.len()].is_ascii_digit();
+    assert!(program.windows(name.len() + 1).any(ends));
 }

@@ -3,7 +3,7 @@
 #[path = "../examples/data/mod.rs"]
 mod data;
 
-use narwhal_store::{Causal, Checked, Committee, Gather, Limits, Message};
+use narwhal_store::{Causal, Checked, Committee, Gather, Limits};
 use narwhal_store::{Store, Subject, Transactions, WriteReply, text_of_vote};
 use std::error::Error;
 use std::thread;
@@ -13,7 +13,7 @@ fn network(keys: &[narwhal_store::PublicKey]) -> (Subject, Vec<Vec<u8>>) {
     let committee = Committee::equal(keys).expect("a committee");
     let (mut messages, mut last) = (data::values("message"), None);
     for message in &messages {
-        if let Ok(Checked::Certificate(certificate)) = Message::check(&committee, message) {
+        if let Ok(Checked::Certificate(certificate)) = committee.check(message) {
             last = Some(certificate.subject());
         }
     }
@@ -41,7 +41,7 @@ fn the_code_of_the_readme_runs() -> Result<(), Box<dyn Error>> {
     let mut session = store.session()?;
 
     for bytes in network {
-        match Message::check(&committee, &bytes) {        // verifies the signatures of blocks and certificates
+        match committee.check(&bytes) {                   // verifies the signatures of blocks and certificates
             Ok(Checked::Block(block)) => {
                 let first = WriteReply::Stored { vote: true }; // of its round and author
                 let reply = session.write(&block)?.into_reply();
@@ -78,7 +78,7 @@ fn the_code_of_the_readme_runs() -> Result<(), Box<dyn Error>> {
 /// The subject that the votes of the examples are for.
 fn subject_of_votes(keys: &[narwhal_store::PublicKey]) -> Subject {
     let committee = Committee::equal(keys).expect("a committee");
-    match Message::check(&committee, &data::values("vote")[0]) {
+    match committee.check(&data::values("vote")[0]) {
         Ok(Checked::Vote(vote)) => vote.subject(),
         other => panic!("{other:?}"),
     }

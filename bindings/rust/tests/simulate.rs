@@ -16,7 +16,7 @@ mod model;
 mod simulator;
 
 use model::{Call, Certificate};
-use narwhal_store::{CheckError, Checked, Gather, GatherError, Message, TextFault};
+use narwhal_store::{CheckError, Checked, Gather, GatherError, TextFault};
 use simulator::{Case, Draw, Plan, Tally, World, code_of, corpus, subject_of, threads, votes_of};
 use std::ops::Range;
 
@@ -141,7 +141,10 @@ const MUST_BE_MET: [&str; 34] = [
 fn altered_texts_are_refused_with_their_first_fault() {
     for case in corpus() {
         for refused in &case.refused {
-            let fault = Message::check(&case.committee, &refused.text).expect_err("a refused text");
+            let fault = case
+                .committee
+                .check(&refused.text)
+                .expect_err("a refused text");
             assert_eq!(code_of(&fault), (refused.fault, refused.signer), "{fault}");
         }
         // A body of 17 transactions of 65,536 bytes is too long. Its text has more bytes than the corpus.
@@ -151,7 +154,7 @@ fn altered_texts_are_refused_with_their_first_fault() {
             &long.repeat(17),
         ]
         .concat();
-        let fault = Message::check(&case.committee, &text).expect_err("a long body");
+        let fault = case.committee.check(&text).expect_err("a long body");
         assert_eq!(fault, CheckError::Text(TextFault::LongBody));
     }
 }
@@ -175,7 +178,7 @@ fn votes_gather_into_certificates() {
 }
 
 fn gather(case: &Case, draw: &mut Draw, certificate: &Certificate) {
-    let vote_of = |message: &[u8]| match Message::check(&case.committee, message) {
+    let vote_of = |message: &[u8]| match case.committee.check(message) {
         Ok(Checked::Vote(vote)) => vote,
         other => panic!("no vote, but {other:?}"),
     };

@@ -1,22 +1,14 @@
 -- What the views of two tickets show about their causal reads.
-use Rattle.std.proofs.Common.{◌≡◌, List, Result, Ok, Err, sym, subst, ◌∙◌}
-use Rattle.std.specs.Prelude.{IfOk}
+use Rattle.nw_book.proofs.Words.{◌≡◌, List, Result, Ok, Err, sym, subst, ◌∙◌, IfOk, Digest, Block, Meaning, State, digest_of, IsComplete, Frozen, Shows, HasBlock, IsWalk, admitted_left, there_held, terms_of, state_of}
 use Rattle.std.specs.FinMap.{get}
-use Rattle.nw_digest.specs.declared.digest.Digest.{Digest}
-use Rattle.nw_codec.specs.declared.block.Block.{Block}
-use Rattle.nw_sig.specs.Signed.{Meaning}
-use Rattle.nw_model.specs.State.{State}
-use Rattle.nw_model.specs.Checks.{digest_of}
 use Rattle.nw_model.specs.Sound.{HasNoBlocksBelowFloor}
-use Rattle.nw_model.specs.Paths.{IsComplete, IsCausalList}
-use Rattle.nw_model.specs.View.{Frozen, Shows, HasBlock, IsAncestorIn, IsWalk}
-use Rattle.nw_model.proofs.Admitted.{admitted_left}
+use Rattle.nw_model.specs.Paths.{IsCausalList}
+use Rattle.nw_model.specs.View.{IsAncestorIn}
 use Rattle.nw_digest.proofs.Elements.{same_map}
-use Rattle.nw_model.proofs.Views.{there_held, ancestors_shown, last_there}
+use Rattle.nw_model.proofs.Views.{ancestors_shown, last_there}
 use Rattle.nw_causal.specs.Agreement.{IsAgreement}
 use Rattle.nw_causal.specs.declared.agreement.Agreement.{Agreement}
 use Rattle.nw_causal.specs.declared.agreement.Agreement.TheVariants as agreements
-use Rattle.nw_history.specs.Story.{terms_of, state_of}
 use Rattle.nw_book.specs.Ticket.{TicketView, IsTicketWith, IsListOf, IsHeldAfter, IsAgreed}
 use Rattle.nw_book.proofs.Opened.{story_sound, ticket_there, ticket_walk}
 

@@ -1,11 +1,6 @@
 -- What an answer to a session means follows from the clauses of the book's step.
-use Rattle.std.proofs.Common.{◌≡◌, ℕ, ◌+◌, List, [], ◌∷◌, ◌++◌, length, refl, sym, ap, ◌∙◌, subst}
+use Rattle.nw_book.proofs.Words.{◌≡◌, ℕ, ◌+◌, List, [], ◌∷◌, ◌++◌, length, refl, sym, ap, ◌∙◌, subst, Meaning, Call, Reply, Story, IsLegalStory, IsPrefixOf}
 use Rattle.std.specs.List.{Contains}
-use Rattle.nw_sig.specs.Signed.{Meaning}
-use Rattle.nw_model.specs.declared.call.Call.{Call}
-use Rattle.nw_model.specs.declared.reply.Reply.{Reply}
-use Rattle.nw_history.specs.Story.{Story, IsLegalStory}
-use Rattle.nw_history.specs.Prefix.{IsPrefixOf}
 use Rattle.nw_book.specs.Answer.{Takes, AnswerView}
 use Rattle.nw_book.specs.Turn.{event}
 use Rattle.nw_book.specs.Journal.{ArePrefixesOf, KnowsAll, with_answer}

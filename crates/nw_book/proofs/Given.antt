@@ -1,10 +1,6 @@
 -- What the reply of an answer gives was admitted.
-use Rattle.std.proofs.Common.{◌≡◌, ◌-◌, Some, length, subst}
-use Rattle.std.specs.Prelude.{slice_get}
-use Rattle.nw_sig.specs.Signed.{Meaning}
-use Rattle.nw_model.specs.declared.reply.Reply.{Reply}
+use Rattle.nw_book.proofs.Words.{◌≡◌, ◌-◌, Some, length, subst, slice_get, Meaning, Reply, IsLegalStory, terms_of}
 use Rattle.nw_model.proofs.Integrity.{GivesAdmitted, gives_what_was_admitted}
-use Rattle.nw_history.specs.Story.{IsLegalStory, terms_of}
 use Rattle.nw_book.specs.Answer.{AnswerView}
 
 -- the front of the answer is legal and ends with the answer's event

@@ -1,14 +1,9 @@
 -- The invariant of a book after one more event.
-use Rattle.std.proofs.Common.{◌≡◌, ◌≢◌, ℕ, ◌+◌, ◌<◌, ◌≤◌, Bool, true, false, cond, List, [], ◌∷◌, ◌++◌, length, set, get_or, ap, sym, ◌∙◌, length-append, length-set, get_or-set_same, get_or-set_other, arith, refl}
-use Rattle.std.specs.Prelude.{◌==◌}
-use Rattle.std.proofs.lemmas.Bool.{eqb-true, eqb-false}
+use Rattle.nw_book.proofs.Words.{◌≡◌, ◌≢◌, ℕ, ◌+◌, ◌<◌, ◌≤◌, Bool, true, false, cond, List, [], ◌∷◌, ◌++◌, length, get_or, ap, sym, ◌∙◌, length-append, arith, refl, ◌==◌, eqb-true, length-filter, count_by-le-length, Meaning, BoundedState, after, IsReply, HasNoList, IsAdmitted, events_of, Event, Story, IsLegalStory, terms_of, bounds_of, state_of, with_event}
+use Rattle.std.proofs.Common.{set, length-set, get_or-set_same, get_or-set_other}
+use Rattle.std.proofs.lemmas.Bool.{eqb-false}
 use Rattle.std.proofs.lemmas.Grind.{get_or_default_zero}
-use Rattle.std.proofs.lemmas.List.Sums.{length-filter, count_by-le-length}
-use Rattle.nw_sig.specs.Signed.{Meaning}
-use Rattle.nw_model.specs.Step.{BoundedState, after, IsReply, HasNoList}
-use Rattle.nw_model.specs.History.{IsAdmitted, events_of}
-use Rattle.nw_model.specs.declared.event.Event.{Event}
-use Rattle.nw_history.specs.Story.{Story, IsLegalStory, terms_of, bounds_of, state_of, tables_of, with_event}
+use Rattle.nw_history.specs.Story.{tables_of}
 use Rattle.nw_book.specs.Turn.{IsInTurn, HasRoom, AreEventCounts, IsBook}
 use Rattle.nw_book.proofs.Longer.{replay_last, events_of_last, legal_last}
 

@@ -1,3 +1,4 @@
+pub mod Words
 pub mod Longer
 pub mod IsBook
 pub mod Opened

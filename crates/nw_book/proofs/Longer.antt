@@ -1,15 +1,10 @@
 -- A history with one more event.
+use Rattle.nw_book.proofs.Words.{◌≡◌, ℕ, ◌+◌, ◌-◌, ◌<◌, Bool, true, false, cond, List, [], ◌∷◌, ◌++◌, Some, length, refl, ap, ◌∙◌, arith, length-append, eqb-true, ◌==◌, slice_get, option_copied, Meaning, State, Bounds, after, IsReply, HasNoList, AreReplies, IsAdmitted, replay, events_of, Event}
 use denote.Bor.{Bor}
-use Rattle.std.proofs.Common.{◌≡◌, ℕ, suc, ◌+◌, ◌-◌, ◌<◌, Bool, true, false, cond, List, [], ◌∷◌, ◌++◌, Option, Some, None, IsSome, length, refl, ap, ◌∙◌, arith, append-nil, length-append}
-use Rattle.std.proofs.lemmas.Bool.{eqb-true}
-use Rattle.std.specs.Prelude.{◌==◌, slice_get}
-use Rattle.std.specs.Option.{option_copied, unwrap_or}
+use Rattle.std.proofs.Common.{suc, Option, None, IsSome, append-nil}
+use Rattle.std.specs.Option.{unwrap_or}
 use Rattle.std.proofs.lemmas.List.Elements.{All-push, filter-append}
-use Rattle.nw_sig.specs.Signed.{Meaning}
-use Rattle.nw_model.specs.State.{State}
-use Rattle.nw_model.specs.Step.{Bounds, after, IsReply, HasNoList}
-use Rattle.nw_model.specs.History.{AreReplies, AreNumbered, IsAdmitted, Terms, IsLegal, replay, events_of}
-use Rattle.nw_model.specs.declared.event.Event.{Event}
+use Rattle.nw_model.specs.History.{AreNumbered, Terms, IsLegal}
 
 pub replay_last : (b : Bounds) (s : State) (es : List Event) (e : Event) → replay b s (es ++ e ∷ []) ≡ after b (replay b s es) e.call
 replay_last b s [] e = refl

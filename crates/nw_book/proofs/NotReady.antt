@@ -1,10 +1,6 @@
 -- The reply to a call that is not a causal read is never Ready.
-use Rattle.std.proofs.Common.{◌≢◌, subst}
-use Rattle.nw_model.specs.State.{State}
-use Rattle.nw_model.specs.Step.{Bounds, IsReply}
-use Rattle.nw_model.specs.declared.call.Call.{Call}
+use Rattle.nw_book.proofs.Words.{◌≢◌, subst, State, Bounds, IsReply, Call, Reply}
 use Rattle.nw_model.specs.declared.call.Call.TheVariants as calls
-use Rattle.nw_model.specs.declared.reply.Reply.{Reply}
 use Rattle.nw_model.specs.declared.reply.Reply.TheVariants as replies
 use Rattle.nw_book.specs.Command.{IsNoCausalRead}
 

@@ -1,24 +1,13 @@
 -- Tickets: their digests are complete, and walks in their views give the lists of their causal reads.
-use Rattle.std.proofs.Common.{◌≡◌, ℕ, List, [], ◌∷◌, ◌++◌, Result, Ok, Err, ap, sym, subst, ◌∙◌}
-use Rattle.std.specs.Prelude.{All, IfOk}
+use Rattle.nw_book.proofs.Words.{◌≡◌, ℕ, List, [], ◌∷◌, ◌++◌, Result, Ok, Err, ap, sym, subst, ◌∙◌, IfOk, Digest, Block, Meaning, State, IsComplete, Frozen, Shows, HasBlock, IsWalk, Bounds, after, IsReply, AreReplies, replay, Event, digest_of, admitted_left, there_held, Story, IsLegalStory, terms_of, bounds_of, state_of, with_event}
+use Rattle.std.specs.Prelude.{All}
 use Rattle.std.proofs.lemmas.List.Elements.{All-weaker}
-use Rattle.nw_digest.specs.declared.digest.Digest.{Digest}
-use Rattle.nw_codec.specs.declared.block.Block.{Block}
-use Rattle.nw_sig.specs.Signed.{Meaning}
-use Rattle.nw_model.specs.State.{State}
 use Rattle.nw_model.specs.Sound.{IsSound}
-use Rattle.nw_model.specs.Paths.{IsComplete}
-use Rattle.nw_model.specs.View.{Frozen, Shows, HasBlock, IsWalk}
-use Rattle.nw_model.specs.Step.{Bounds, after, IsReply}
-use Rattle.nw_model.specs.History.{AreReplies, replay}
 use Rattle.nw_model.specs.declared.call.Call.TheVariants as calls
-use Rattle.nw_model.specs.declared.event.Event.{Event}
 use Rattle.nw_model.specs.declared.reply.Reply.TheVariants as replies
-use Rattle.nw_model.specs.Checks.{digest_of, IsWellFormed}
-use Rattle.nw_model.proofs.Admitted.{admitted_left}
+use Rattle.nw_model.specs.Checks.{IsWellFormed}
 use Rattle.nw_model.proofs.Replayed.{legal_sound}
-use Rattle.nw_model.proofs.Views.{complete_there, there_held, walk_is_causal}
-use Rattle.nw_history.specs.Story.{Story, IsLegalStory, terms_of, bounds_of, state_of, with_event}
+use Rattle.nw_model.proofs.Views.{complete_there, walk_is_causal}
 use Rattle.nw_causal.specs.declared.ancestor.Ancestor.{Ancestor}
 use Rattle.nw_causal.specs.Looked.{AreUnderTheirDigests}
 use Rattle.nw_book.specs.Ticket.{TicketView, IsTicket, IsTicketWith}

@@ -1,10 +1,8 @@
 -- Prefixes of histories.
-use Rattle.std.proofs.Common.{◌≡◌, ◌≤◌, List, [], ◌∷◌, ◌++◌, length, refl, sym, ap, ◌∙◌, append_assoc, subst, ⊎_elim, inl, inr, arith}
+use Rattle.nw_book.proofs.Words.{◌≡◌, ◌≤◌, List, [], ◌∷◌, ◌++◌, length, refl, sym, ap, ◌∙◌, subst, arith, Event, Story, with_event, IsPrefixOf}
+use Rattle.std.proofs.Common.{append_assoc, ⊎_elim, inl, inr}
 use mathlib.Core.List.{IsPrefix}
 use mathlib.Core.Logic.{◌⊎◌}
-use Rattle.nw_model.specs.declared.event.Event.{Event}
-use Rattle.nw_history.specs.Story.{Story, with_event}
-use Rattle.nw_history.specs.Prefix.{IsPrefixOf}
 use Rattle.nw_book.specs.Answer.{AnswerView}
 use Rattle.nw_book.specs.Journal.{ArePrefixesOf, AreComparable}
 

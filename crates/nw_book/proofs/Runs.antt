@@ -1,9 +1,7 @@
 -- Runs with one more move, and runs that stop.
-use Rattle.std.proofs.Common.{◌≡◌, ℕ, ◌+◌, ◌<◌, List, [], ◌∷◌, ◌++◌, Some, length, take, get_or, refl, ap, sym, subst, ◌∙◌, arith, length-append, length-take}
-use Rattle.std.specs.Prelude.{slice_get}
+use Rattle.nw_book.proofs.Words.{◌≡◌, ℕ, ◌+◌, ◌<◌, List, [], ◌∷◌, ◌++◌, Some, length, take, get_or, refl, ap, sym, subst, ◌∙◌, arith, length-append, slice_get, slice_get_read, Meaning}
+use Rattle.std.proofs.Common.{length-take}
 use Rattle.std.proofs.lemmas.List.{take_more}
-use Rattle.std.proofs.lemmas.Option.{slice_get_read}
-use Rattle.nw_sig.specs.Signed.{Meaning}
 use Rattle.nw_book.specs.Run.{Progress, IsStop, Makes, Runs}
 use Rattle.nw_book.specs.declared.moves.Move.{Move}
 use Rattle.nw_book.specs.declared.moves.Cause.{Cause}

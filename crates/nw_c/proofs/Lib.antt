@@ -3,3 +3,5 @@ pub mod AsBox
 pub mod Send
 pub mod Cut
 pub mod Walked
+pub mod Unread
+pub mod Kept

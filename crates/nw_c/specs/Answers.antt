@@ -47,7 +47,7 @@ IsMissingAt other index s = ⊥
 
 -- the counts in a status of C
 abbrev pub counts_of : CStatus → Counts
-counts_of s = record { floor = s.floor; blocks = s.blocks; certificates = s.certificates; complete = s.complete; wanted = s.wanted }
+counts_of s = record { floor = s.garbage_round; blocks = s.blocks; certificates = s.certificates; complete = s.complete; wanted = s.wanted }
 
 -- it is the answer to a call for the status, with these counts
 abbrev pub EncodesStatus : Content → CStatus → Type 0

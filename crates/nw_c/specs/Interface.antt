@@ -1,9 +1,9 @@
 -- Which library it is.
 use Rattle.std.specs.Prelude.{ℕ}
 
--- version 0.1.0
+-- version 0.2.0
 abbrev pub version : ℕ
-version = 100
+version = 200
 
 -- the number of the interface
 abbrev pub interface : ℕ

@@ -10,7 +10,7 @@ use Rattle.nw_check.specs.declared.message.Checked.TheVariants as checked
 use Rattle.nw_history.specs.Story.{Story}
 use Rattle.nw_book.specs.Answer.{AnswerView}
 use Rattle.nw_book.specs.Ticket.{TicketView}
-use Rattle.nw_shared_store.specs.Session.{SessionView, StoreId}
+use Rattle.nw_shared_store.specs.Session.{SessionView, StoreView}
 use Rattle.nw_ed25519.specs.declared.scheme.Ed25519.{Ed25519}
 use Rattle.nw_c.specs.declared.content.Content.{Content}
 use Rattle.nw_c.specs.declared.content.Content.TheVariants as kind
@@ -86,7 +86,7 @@ HoldsBlock c = (block : Block) × (c ≡ kind.Block block)
 
 -- it is a store that threads share
 abbrev pub HoldsStore : Content → Type 0
-HoldsStore c = (store : StoreId) × (c ≡ kind.Store store)
+HoldsStore c = (store : StoreView) × (c ≡ kind.Store store)
 
 -- it is a session of such a store
 abbrev pub HoldsSession : Content → Type 0

@@ -20,7 +20,7 @@ digest_if has d = if has then Some (digest_in d) else None
 
 -- the look as a value of the store
 abbrev pub look_in : CLook → Look
-look_in c = record { floor = c.floor; first = digest_if c.has_first c.first; certified = digest_if c.has_certified c.certified; stands = c.stands; complete = c.complete }
+look_in c = record { floor = c.garbage_round; newest = c.newest_round; first = digest_if c.has_first c.first; missing = c.missing; certified = digest_if c.has_certified c.certified; stands = c.stands; complete = c.complete }
 
 -- the look and its author as values of the store
 abbrev pub author_look_in : CAuthorLook → ℕ × Look

@@ -1,5 +1,5 @@
 -- Calls of sessions and their notes.
-use Rattle.std.specs.Prelude.{◌≡◌, ℕ, List, Option, Some, None}
+use Rattle.std.specs.Prelude.{◌≡◌, ℕ, List, Option, Some, None, false}
 use Rattle.nw_committee.specs.declared.member.Member.{Member}
 use Rattle.nw_digest.specs.declared.digest.Digest.{Digest}
 use Rattle.nw_sig.specs.Signed.{Meaning}
@@ -9,14 +9,16 @@ use Rattle.nw_model.specs.declared.call.Call.TheVariants as call
 use Rattle.nw_model.specs.declared.reply.CausalReply.{CausalReply}
 use Rattle.nw_model.specs.declared.reply.Reply.{Reply}
 use Rattle.nw_model.specs.declared.reply.Reply.TheVariants as reply
+use Rattle.nw_history.specs.Prefix.{IsPrefixOf}
 use Rattle.nw_history.specs.Story.{Story}
 use Rattle.nw_check.specs.declared.message.Checked.TheVariants as checked
 use Rattle.nw_book.specs.Answered.{IsExplained}
-use Rattle.nw_book.specs.Journal.{KnowsAll, origin_of}
+use Rattle.nw_book.specs.Journal.{origin_of}
 use Rattle.nw_book.specs.Settled.{IsJournalOf}
 use Rattle.nw_book.specs.Turn.{MatchesCommittee}
+use Rattle.nw_shared_store.specs.Recorded.{AreRecorded}
 use Rattle.nw_shared_store.specs.Rule.{knowing}
-use Rattle.nw_shared_store.specs.Session.{HasHeard, IsOfAnother, IsPresent, IsRefused, IsSameSession, SessionView}
+use Rattle.nw_shared_store.specs.Session.{HasSeen, IsPresent, IsRefusedBy, IsSameSession, SessionView, ended}
 use Rattle.nw_shared_store.specs.declared.error.Refusal.{Refusal}
 use Rattle.nw_c.specs.declared.content.Content.{Content}
 use Rattle.nw_c.specs.declared.content.Content.TheVariants as kind
@@ -35,6 +37,10 @@ pub record IsCallOf (accepts : Meaning) (asked : Call) (old new : SessionView) (
   pub explained : IsExplained accepts (origin_of old.first) old.journal new.journal asked told front
   -- of this session, the answer's history has exactly the calls that the session made, in order
   pub own_calls : IsJournalOf front old.journal.id new.journal
+  -- each event's call is recorded with its reply
+  pub recorded : AreRecorded front.events
+  -- no call was told before that the run has ended
+  pub goes_on : new.over ≡ false
 
 -- the session made this call, and this is the answer
 abbrev pub IsCalled : Meaning → Call → Content → Content → Content → Type 0
@@ -70,11 +76,17 @@ abbrev pub IsUnderOwn : Content → Option (List Member) → Type 0
 IsUnderOwn (kind.Session session) under = MatchesCommittee session.first.committee under
 IsUnderOwn other under = ⊥
 
--- the session's next call is refused for this cause; `under` is the committee of the value handed in, if the call hands one in. The cause is
--- never its turn. The lock may be taken, or the session's run has ended. Each other cause applies after some history of the run
-abbrev pub IsRefusedTo : Meaning → Content → Option (List Member) → Refusal → Type 0
-IsRefusedTo accepts (kind.Session session) under why = IsRefused accepts (origin_of session.first) session.journal under why
-IsRefusedTo accepts other under why = ⊥
+-- it is the same session, whose next call is refused for this cause; `under` is the committee of the value handed in, if the call hands one in.
+-- The cause is never its turn. If the lock was taken, nothing changed. If the session's run has ended, the session knows it from now on. Each
+-- other cause applies after the present history of the run, and from now on the session knows of this history
+abbrev pub IsRefusedTo : Meaning → Content → Content → Option (List Member) → Refusal → Type 0
+IsRefusedTo accepts (kind.Session old) (kind.Session new) under why = IsSameSession old new × IsRefusedBy accepts old new under why
+IsRefusedTo accepts old new under why = ⊥
+
+-- it is the same session, which knows from now on that its run has ended
+abbrev pub KnowsEnd : Content → Content → Type 0
+KnowsEnd (kind.Session old) (kind.Session new) = new ≡ ended old
+KnowsEnd old new = ⊥
 
 -- the history is the present one of the session's run. Of this session it has exactly the calls that it made, in order, and all that the
 -- session knew is a prefix of it. From now on, the session knows of this history
@@ -83,18 +95,12 @@ IsNoteOf accepts (kind.Session old) (kind.Session new) (kind.History history) =
     IsSameSession old new × (new.journal ≡ knowing old.journal history) × ((made : ℕ) × IsPresent accepts (origin_of old.first) old.journal history made)
 IsNoteOf accepts old new answer = ⊥
 
--- it is a session that knows of a history of which this one is a prefix
-abbrev pub KnowsNote : Content → Option Story → Type 0
-KnowsNote (kind.Session session) (Some front) = HasHeard session.journal front
-KnowsNote other front = ⊥
+-- it is the same session, which saw the present history of its run. This is true of the history, and from now on the session knows of it
+abbrev pub Sees : Meaning → Content → Content → (Story → Type 0) → Type 0
+Sees accepts (kind.Session old) (kind.Session new) then = IsSameSession old new × HasSeen accepts old new then
+Sees accepts old new then = ⊥
 
--- it is the same session of the same run, with the same answers, and it still knows of each history that it knew of
-abbrev pub IsLater : Content → Content → Type 0
-IsLater (kind.Session old) (kind.Session new) =
-    IsSameSession old new × (new.journal.answers ≡ old.journal.answers) × KnowsAll new.journal.known old.journal.known
-IsLater old new = ⊥
-
--- this history is no prefix of some history of the session's run
-abbrev pub IsNoNoteFor : Meaning → Content → Option Story → Type 0
-IsNoNoteFor accepts (kind.Session session) (Some front) = IsOfAnother accepts (origin_of session.first) front
-IsNoNoteFor accepts other front = ⊥
+-- there is a note, and the history begins with it
+abbrev pub BeginsWith : Option Story → Story → Type 0
+BeginsWith (Some note) h = IsPrefixOf note h
+BeginsWith None h = ⊥

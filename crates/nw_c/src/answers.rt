@@ -1,10 +1,12 @@
 //! The replies that answers have: blocks, certificates, missing parents and counts.
-ghost use Rattle.std.specs.Prelude.{◌≡◌, ◌<◌, pos, take, true, length, None};
+ghost use Rattle.std.specs.Prelude.{◌≡◌, ◌∷◌, ◌≤◌, [], pos, take, true, length, None, false};
 ghost use Rattle.nw_model.specs.declared.reply.Reply.TheVariants as Reply;
 ghost use Rattle.nw_c.specs.Answers.{AnswersCertificate, AnswersMissing, AnswersRead, AnswersStatus, HasNoMissingAt, HasReply, EncodesCertificate, FindsBlock, IsMissingAt, EncodesStatus};
 ghost use Rattle.nw_c.specs.Kinds.{IsUnchanged};
 ghost use Rattle.nw_c.specs.Plain.{IsTooLong};
-ghost use Rattle.nw_c.specs.declared.codes.TheConstants.{ABSENT, CLOSED, NO_MEMORY, OPEN, OTHER_KIND, OVER_LIMIT, SMALL};
+ghost use Rattle.nw_c.specs.Codes.{IsFirstUnmet};
+ghost use Rattle.nw_c.specs.declared.content.Content.TheVariants as kind;
+ghost use Rattle.nw_c.specs.declared.codes.TheConstants.{ABSENT, CLOSED, DONE, NO_MEMORY, OPEN, OTHER_KIND, SMALL};
 
 use crate::codes::{ABSENT, CLOSED, DONE, NO_MEMORY, OPEN, OTHER_KIND};
 use crate::content::Content;
@@ -20,7 +22,7 @@ use std::alloc::Global;
 #[repr(C)]
 #[derive(Clone, Copy)]
 pub struct CStatus {
-    pub floor: u64,
+    pub garbage_round: u64,
     pub blocks: u64,
     pub certificates: u64,
     pub complete: u64,
@@ -31,9 +33,10 @@ pub struct CStatus {
 /// be used again: a new answer replaces the old one. A refused call leaves the old one in place.
 #[unsafe(no_mangle)]
 pub extern "C" fn nw_answer_new(alloc: Global, out: &mut AnswerHandle) -> i32
+    ensures made { result ≡ pos 0 → out.new.value ≡ kind.Room }
     ensures unchanged { (result ≡ pos 0 → ⊥) → IsUnchanged out.old out.new }
     ensures opened { result ≡ pos 0 → out.new.held ≡ true }
-    ensures occupied { result ≡ OPEN → out.old.held ≡ true }
+    ensures code { IsFirstUnmet ((OPEN, out.old.held ≡ false) ∷ []) (DONE ∷ NO_MEMORY ∷ []) result }
 {
     if out.is_open() {
         return OPEN;
@@ -53,10 +56,10 @@ pub extern "C" fn nw_answer_block(
     ensures same { IsUnchanged answer.old answer.new }
     ensures unchanged { (result ≡ pos 0 → ⊥) → IsUnchanged out.old out.new }
     ensures opened { result ≡ pos 0 → out.new.held ≡ true }
-    ensures occupied { result ≡ OPEN → out.old.held ≡ true }
-    ensures closed { result ≡ CLOSED → answer.old.held ≡ true → ⊥ }
-    ensures other_kind { result ≡ OTHER_KIND → AnswersRead answer.old.value → ⊥ }
     ensures absent { result ≡ ABSENT → HasReply answer.old.value (Reply.Read None) }
+    ensures code { IsFirstUnmet
+        ((CLOSED, answer.old.held ≡ true) ∷ (OPEN, out.old.held ≡ false) ∷ (OTHER_KIND, AnswersRead answer.old.value) ∷ [])
+        (DONE ∷ ABSENT ∷ NO_MEMORY ∷ []) result }
 {
     if !answer.is_open() {
         return CLOSED;
@@ -88,13 +91,13 @@ pub extern "C" fn nw_answer_message(
     ensures certificate { result ≡ pos 0
         → EncodesCertificate answer.old.value (take needed.new buffer.new) }
     ensures same { IsUnchanged answer.old answer.new }
-    ensures closed { result ≡ CLOSED → answer.old.held ≡ true → ⊥ }
-    ensures other_kind { result ≡ OTHER_KIND → AnswersCertificate answer.old.value → ⊥ }
-    ensures absent { result ≡ ABSENT → HasReply answer.old.value (Reply.Certificate None) }
-    ensures over_limit { result ≡ OVER_LIMIT → ⊥ }
-    ensures no_memory { result ≡ NO_MEMORY → ⊥ }
     ensures small { result ≡ SMALL → IsTooLong (EncodesCertificate answer.old.value) (length buffer.old) needed.new }
     ensures unchanged { (result ≡ pos 0 → ⊥) → buffer.new ≡ buffer.old }
+    ensures needed { (result ≡ pos 0 → ⊥) → (result ≡ SMALL → ⊥) → needed.new ≡ needed.old }
+    ensures absent { result ≡ ABSENT → HasReply answer.old.value (Reply.Certificate None) }
+    ensures code { IsFirstUnmet
+        ((CLOSED, answer.old.held ≡ true) ∷ (OTHER_KIND, AnswersCertificate answer.old.value) ∷ (ABSENT, HasReply answer.old.value (Reply.Certificate None) → ⊥) ∷ (SMALL, needed.new ≤ length buffer.old) ∷ [])
+        (DONE ∷ []) result }
 {
     if !answer.is_open() {
         return CLOSED;
@@ -120,9 +123,10 @@ pub extern "C" fn nw_answer_missing(
 ) -> i32
     ensures missing { result ≡ pos 0 → IsMissingAt answer.old.value index out.new }
     ensures same { IsUnchanged answer.old answer.new }
-    ensures closed { result ≡ CLOSED → answer.old.held ≡ true → ⊥ }
-    ensures other_kind { result ≡ OTHER_KIND → AnswersMissing answer.old.value → ⊥ }
     ensures absent { result ≡ ABSENT → HasNoMissingAt answer.old.value index }
+    ensures unchanged { (result ≡ pos 0 → ⊥) → out.new ≡ out.old }
+    ensures other_kind { result ≡ OTHER_KIND → AnswersMissing answer.old.value → ⊥ }
+    ensures code { IsFirstUnmet ((CLOSED, answer.old.held ≡ true) ∷ []) (DONE ∷ OTHER_KIND ∷ ABSENT ∷ []) result }
 {
     if !answer.is_open() {
         return CLOSED;
@@ -154,8 +158,10 @@ pub extern "C" fn nw_answer_missing(
 pub extern "C" fn nw_answer_status(answer: &mut AnswerHandle, out: &mut CStatus) -> i32
     ensures status { result ≡ pos 0 → EncodesStatus answer.old.value out.new }
     ensures same { IsUnchanged answer.old answer.new }
-    ensures closed { result ≡ CLOSED → answer.old.held ≡ true → ⊥ }
-    ensures other_kind { result ≡ OTHER_KIND → AnswersStatus answer.old.value → ⊥ }
+    ensures unchanged { (result ≡ pos 0 → ⊥) → out.new ≡ out.old }
+    ensures code { IsFirstUnmet
+        ((CLOSED, answer.old.held ≡ true) ∷ (OTHER_KIND, AnswersStatus answer.old.value) ∷ [])
+        (DONE ∷ []) result }
 {
     if !answer.is_open() {
         return CLOSED;
@@ -164,7 +170,7 @@ pub extern "C" fn nw_answer_status(answer: &mut AnswerHandle, out: &mut CStatus)
         Content::Answer(done) => match done.reply() {
             Reply::Status(counts) => {
                 *out = CStatus {
-                    floor: counts.floor.get(),
+                    garbage_round: counts.floor.get(),
                     blocks: counts.blocks,
                     certificates: counts.certificates,
                     complete: counts.complete,

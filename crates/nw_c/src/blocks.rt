@@ -1,9 +1,10 @@
 //! Reading blocks: their parts, bodies and messages.
-ghost use Rattle.std.specs.Prelude.{◌≡◌, pos, take, true, length};
+ghost use Rattle.std.specs.Prelude.{◌≡◌, ◌∷◌, ◌≤◌, [], pos, take, true, length};
 ghost use Rattle.nw_c.specs.Blocks.{HasBody, HasCounts, HasLongBody, HasMessage, HasNoParentAt, HasParentAt, HasSubject};
 ghost use Rattle.nw_c.specs.Kinds.{IsUnchanged, HoldsBlock};
 ghost use Rattle.nw_c.specs.Plain.{IsTooLong};
-ghost use Rattle.nw_c.specs.declared.codes.TheConstants.{ABSENT, CLOSED, NO_MEMORY, OTHER_KIND, OVER_LIMIT, SMALL};
+ghost use Rattle.nw_c.specs.Codes.{IsFirstUnmet};
+ghost use Rattle.nw_c.specs.declared.codes.TheConstants.{ABSENT, CLOSED, DONE, OTHER_KIND, SMALL};
 
 use crate::codes::{ABSENT, CLOSED, DONE, OTHER_KIND};
 use crate::content::Content;
@@ -28,8 +29,10 @@ pub struct CParent {
 pub extern "C" fn nw_block_subject(block: &mut BlockHandle, out: &mut CSubject) -> i32
     ensures subject { result ≡ pos 0 → HasSubject block.old.value out.new }
     ensures same { IsUnchanged block.old block.new }
-    ensures closed { result ≡ CLOSED → block.old.held ≡ true → ⊥ }
-    ensures other_kind { result ≡ OTHER_KIND → HoldsBlock block.old.value → ⊥ }
+    ensures unchanged { (result ≡ pos 0 → ⊥) → out.new ≡ out.old }
+    ensures code { IsFirstUnmet
+        ((CLOSED, block.old.held ≡ true) ∷ (OTHER_KIND, HoldsBlock block.old.value) ∷ [])
+        (DONE ∷ []) result }
 {
     if !block.is_open() {
         return CLOSED;
@@ -50,8 +53,10 @@ pub extern "C" fn nw_block_counts(
 ) -> i32
     ensures counts { result ≡ pos 0 → HasCounts block.old.value parents.new transactions.new }
     ensures same { IsUnchanged block.old block.new }
-    ensures closed { result ≡ CLOSED → block.old.held ≡ true → ⊥ }
-    ensures other_kind { result ≡ OTHER_KIND → HoldsBlock block.old.value → ⊥ }
+    ensures unchanged { (result ≡ pos 0 → ⊥) → (parents.new ≡ parents.old) × (transactions.new ≡ transactions.old) }
+    ensures code { IsFirstUnmet
+        ((CLOSED, block.old.held ≡ true) ∷ (OTHER_KIND, HoldsBlock block.old.value) ∷ [])
+        (DONE ∷ []) result }
 {
     if !block.is_open() {
         return CLOSED;
@@ -71,9 +76,11 @@ pub extern "C" fn nw_block_counts(
 pub extern "C" fn nw_block_parent(block: &mut BlockHandle, index: usize, out: &mut CParent) -> i32
     ensures parent { result ≡ pos 0 → HasParentAt block.old.value index out.new }
     ensures same { IsUnchanged block.old block.new }
-    ensures closed { result ≡ CLOSED → block.old.held ≡ true → ⊥ }
-    ensures other_kind { result ≡ OTHER_KIND → HoldsBlock block.old.value → ⊥ }
     ensures absent { result ≡ ABSENT → HasNoParentAt block.old.value index }
+    ensures unchanged { (result ≡ pos 0 → ⊥) → out.new ≡ out.old }
+    ensures code { IsFirstUnmet
+        ((CLOSED, block.old.held ≡ true) ∷ (OTHER_KIND, HoldsBlock block.old.value) ∷ [])
+        (DONE ∷ ABSENT ∷ []) result }
 {
     if !block.is_open() {
         return CLOSED;
@@ -103,12 +110,12 @@ pub extern "C" fn nw_block_body(
 ) -> i32
     ensures body { result ≡ pos 0 → HasBody block.old.value (take needed.new buffer.new) }
     ensures same { IsUnchanged block.old block.new }
-    ensures closed { result ≡ CLOSED → block.old.held ≡ true → ⊥ }
-    ensures other_kind { result ≡ OTHER_KIND → HoldsBlock block.old.value → ⊥ }
-    ensures over_limit { result ≡ OVER_LIMIT → ⊥ }
-    ensures no_memory { result ≡ NO_MEMORY → ⊥ }
     ensures small { result ≡ SMALL → HasLongBody block.old.value (length buffer.old) needed.new }
     ensures unchanged { (result ≡ pos 0 → ⊥) → buffer.new ≡ buffer.old }
+    ensures needed { (result ≡ pos 0 → ⊥) → (result ≡ SMALL → ⊥) → needed.new ≡ needed.old }
+    ensures code { IsFirstUnmet
+        ((CLOSED, block.old.held ≡ true) ∷ (OTHER_KIND, HoldsBlock block.old.value) ∷ (SMALL, needed.new ≤ length buffer.old) ∷ [])
+        (DONE ∷ []) result }
 {
     if !block.is_open() {
         return CLOSED;
@@ -130,13 +137,13 @@ pub extern "C" fn nw_block_message(
 ) -> i32
     ensures message { result ≡ pos 0 → HasMessage block.old.value signature.now (take needed.new buffer.new) }
     ensures same { IsUnchanged block.old block.new }
-    ensures closed { result ≡ CLOSED → block.old.held ≡ true → ⊥ }
-    ensures other_kind { result ≡ OTHER_KIND → HoldsBlock block.old.value → ⊥ }
-    ensures over_limit { result ≡ OVER_LIMIT → ⊥ }
-    ensures no_memory { result ≡ NO_MEMORY → ⊥ }
     ensures small { result ≡ SMALL
         → IsTooLong (HasMessage block.old.value signature.now) (length buffer.old) needed.new }
     ensures unchanged { (result ≡ pos 0 → ⊥) → buffer.new ≡ buffer.old }
+    ensures needed { (result ≡ pos 0 → ⊥) → (result ≡ SMALL → ⊥) → needed.new ≡ needed.old }
+    ensures code { IsFirstUnmet
+        ((CLOSED, block.old.held ≡ true) ∷ (OTHER_KIND, HoldsBlock block.old.value) ∷ (SMALL, needed.new ≤ length buffer.old) ∷ [])
+        (DONE ∷ []) result }
 {
     if !block.is_open() {
         return CLOSED;

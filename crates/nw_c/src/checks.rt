@@ -1,11 +1,12 @@
 //! Decoding and checking texts.
-ghost use Rattle.std.specs.Prelude.{◌≡◌, ◌<◌, pos, take, true, length, slice_get, IfSome, IsNone, Some, None};
+ghost use Rattle.std.specs.Prelude.{◌≡◌, ◌∷◌, ◌≤◌, [], pos, take, true, length, slice_get, IfSome, IsNone, Some, None, false};
 ghost use Rattle.nw_codec.specs.Fits.{signers};
 ghost use Rattle.nw_ed25519.specs.Accepts.{accepts};
 ghost use Rattle.nw_c.specs.Checks.{HasNoSignerAt, HasSignerAt, IsBlockOf, IsCheckOf, IsSpelledBy, EncodesMessageOf};
 ghost use Rattle.nw_c.specs.Kinds.{HoldsMessage, IsUnchanged, HoldsChecked, HoldsCheckedBlock, HoldsCheckedCert, HoldsCommittee};
 ghost use Rattle.nw_c.specs.Plain.{IsTooLong};
-ghost use Rattle.nw_c.specs.declared.codes.TheConstants.{ABSENT, CLOSED, NO_MEMORY, OPEN, OTHER_KIND, OVER_LIMIT, SMALL};
+ghost use Rattle.nw_c.specs.Codes.{IsFirstUnmet};
+ghost use Rattle.nw_c.specs.declared.codes.TheConstants.{ABSENT, CLOSED, DONE, NO_MEMORY, OPEN, OTHER_KIND, SMALL};
 
 use crate::codes::{ABSENT, CLOSED, DONE, NO_MEMORY, OPEN, OTHER_KIND};
 use crate::content::Content;
@@ -30,9 +31,9 @@ pub extern "C" fn nw_check(
     ensures same { IsUnchanged committee.old committee.new }
     ensures unchanged { (result ≡ pos 0 → ⊥) → IsUnchanged out.old out.new }
     ensures opened { result ≡ pos 0 → out.new.held ≡ true }
-    ensures occupied { result ≡ OPEN → out.old.held ≡ true }
-    ensures closed { result ≡ CLOSED → committee.old.held ≡ true → ⊥ }
-    ensures other_kind { result ≡ OTHER_KIND → HoldsCommittee committee.old.value → ⊥ }
+    ensures code { IsFirstUnmet
+        ((CLOSED, committee.old.held ≡ true) ∷ (OPEN, out.old.held ≡ false) ∷ (OTHER_KIND, HoldsCommittee committee.old.value) ∷ [])
+        (DONE ∷ NO_MEMORY ∷ []) result }
 {
     if !committee.is_open() {
         return CLOSED;
@@ -57,8 +58,10 @@ pub extern "C" fn nw_check(
 pub extern "C" fn nw_checked_kind(checked: &mut CheckedHandle, out: &mut CMessage) -> i32
     ensures told { result ≡ pos 0 → EncodesMessageOf checked.old.value out.new }
     ensures same { IsUnchanged checked.old checked.new }
-    ensures closed { result ≡ CLOSED → checked.old.held ≡ true → ⊥ }
-    ensures other_kind { result ≡ OTHER_KIND → HoldsChecked checked.old.value → ⊥ }
+    ensures unchanged { (result ≡ pos 0 → ⊥) → out.new ≡ out.old }
+    ensures code { IsFirstUnmet
+        ((CLOSED, checked.old.held ≡ true) ∷ (OTHER_KIND, HoldsChecked checked.old.value) ∷ [])
+        (DONE ∷ []) result }
 {
     if !checked.is_open() {
         return CLOSED;
@@ -83,9 +86,9 @@ pub extern "C" fn nw_checked_block(
     ensures same { IsUnchanged checked.old checked.new }
     ensures unchanged { (result ≡ pos 0 → ⊥) → IsUnchanged out.old out.new }
     ensures opened { result ≡ pos 0 → out.new.held ≡ true }
-    ensures occupied { result ≡ OPEN → out.old.held ≡ true }
-    ensures closed { result ≡ CLOSED → checked.old.held ≡ true → ⊥ }
-    ensures other_kind { result ≡ OTHER_KIND → HoldsCheckedBlock checked.old.value → ⊥ }
+    ensures code { IsFirstUnmet
+        ((CLOSED, checked.old.held ≡ true) ∷ (OPEN, out.old.held ≡ false) ∷ (OTHER_KIND, HoldsCheckedBlock checked.old.value) ∷ [])
+        (DONE ∷ NO_MEMORY ∷ []) result }
 {
     if !checked.is_open() {
         return CLOSED;
@@ -116,12 +119,12 @@ pub extern "C" fn nw_checked_message(
 ) -> i32
     ensures message { result ≡ pos 0 → IsSpelledBy checked.old.value (take needed.new buffer.new) }
     ensures same { IsUnchanged checked.old checked.new }
-    ensures closed { result ≡ CLOSED → checked.old.held ≡ true → ⊥ }
-    ensures other_kind { result ≡ OTHER_KIND → HoldsMessage checked.old.value → ⊥ }
-    ensures over_limit { result ≡ OVER_LIMIT → ⊥ }
-    ensures no_memory { result ≡ NO_MEMORY → ⊥ }
     ensures small { result ≡ SMALL → IsTooLong (IsSpelledBy checked.old.value) (length buffer.old) needed.new }
     ensures unchanged { (result ≡ pos 0 → ⊥) → buffer.new ≡ buffer.old }
+    ensures needed { (result ≡ pos 0 → ⊥) → (result ≡ SMALL → ⊥) → needed.new ≡ needed.old }
+    ensures code { IsFirstUnmet
+        ((CLOSED, checked.old.held ≡ true) ∷ (OTHER_KIND, HoldsMessage checked.old.value) ∷ (SMALL, needed.new ≤ length buffer.old) ∷ [])
+        (DONE ∷ []) result }
 {
     if !checked.is_open() {
         return CLOSED;
@@ -161,9 +164,11 @@ fn signer_at(certificate: &CheckedCert<Ed25519>, index: usize) -> Option<u16>
 pub extern "C" fn nw_checked_signer(checked: &mut CheckedHandle, index: usize, out: &mut u16) -> i32
     ensures signer { result ≡ pos 0 → HasSignerAt checked.old.value index out.new }
     ensures same { IsUnchanged checked.old checked.new }
-    ensures closed { result ≡ CLOSED → checked.old.held ≡ true → ⊥ }
-    ensures other_kind { result ≡ OTHER_KIND → HoldsCheckedCert checked.old.value → ⊥ }
     ensures absent { result ≡ ABSENT → HasNoSignerAt checked.old.value index }
+    ensures unchanged { (result ≡ pos 0 → ⊥) → out.new ≡ out.old }
+    ensures code { IsFirstUnmet
+        ((CLOSED, checked.old.held ≡ true) ∷ (OTHER_KIND, HoldsCheckedCert checked.old.value) ∷ [])
+        (DONE ∷ ABSENT ∷ []) result }
 {
     if !checked.is_open() {
         return CLOSED;

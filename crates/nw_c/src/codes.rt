@@ -1,13 +1,13 @@
 //! The codes that the functions return.
-ghost use Rattle.std.specs.Prelude.{◌≡◌, pos};
-ghost use Rattle.nw_c.specs.Codes.{gather_code, step_code};
+ghost use Rattle.std.specs.Prelude.{◌≡◌, ◌∷◌, [], pos};
+ghost use Rattle.nw_c.specs.Codes.{IsOneOf, gather_code, step_code};
 
 use nw_book::NoStep;
 use nw_check::GatherFault;
 
 /// Success.
 pub(crate) const DONE: i32 = 0;
-/// Out of memory. Nothing changed.
+/// Out of memory. Nothing changed but what sessions know.
 pub(crate) const NO_MEMORY: i32 = 1;
 /// A handle that must be open is closed.
 pub(crate) const CLOSED: i32 = 2;
@@ -45,7 +45,7 @@ pub(crate) const BAD_SIGNATURE: i32 = 17;
 pub(crate) const FEW_VOTES: i32 = 18;
 /// The two tickets have different digests or garbage rounds, so their lists cannot be compared.
 pub(crate) const NOT_COMPARABLE: i32 = 19;
-/// Another thread has the lock of the store. Nothing changed. Call again.
+/// Another thread has the lock of the store. Nothing changed but what sessions know. Call again.
 pub(crate) const BUSY: i32 = 20;
 /// The store has made as many sessions as its limit allows.
 pub(crate) const TOO_MANY_SESSIONS: i32 = 21;
@@ -53,7 +53,7 @@ pub(crate) const TOO_MANY_SESSIONS: i32 = 21;
 pub(crate) const OTHER_HISTORY: i32 = 22;
 /// The sessions are not all sessions of one store, in the order of their numbers.
 pub(crate) const UNSETTLED: i32 = 23;
-/// The run of the session has ended. Nothing changed. Renew the session.
+/// The run of the session has ended. Nothing changed but what sessions know. Renew the session.
 pub(crate) const ENDED: i32 = 24;
 
 /// The code of a refused step.
@@ -70,7 +70,8 @@ pub(crate) fn code_of_step(why: NoStep) -> i32
 
 /// The code of a vote that is not counted.
 pub(crate) fn code_of_vote(why: GatherFault) -> i32
-    ensures { result ≡ gather_code why }
+    ensures code { result ≡ gather_code why }
+    ensures named { IsOneOf (OTHER_BLOCK ∷ REPEATED ∷ NO_MEMBER ∷ BAD_SIGNATURE ∷ NO_MEMORY ∷ []) result }
 {
     match why {
         GatherFault::OtherBlock => OTHER_BLOCK,

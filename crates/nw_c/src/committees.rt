@@ -1,9 +1,10 @@
 //! Making and reading committees.
-ghost use Rattle.std.specs.Prelude.{◌≡◌, pos, map, IfOk, IfErr, true, false};
+ghost use Rattle.std.specs.Prelude.{◌≡◌, ◌∷◌, [], pos, map, IfOk, IfErr, true, false};
 ghost use Rattle.nw_committee.specs.Committee.{IsCommittee as IsValid};
 ghost use Rattle.nw_c.specs.Committees.{AreOneCommittee, HasMember, HasQuorum, HasSize, IsCommitteeOf, LacksMember, member_in};
 ghost use Rattle.nw_c.specs.Kinds.{IsUnchanged, HoldsCommittee};
-ghost use Rattle.nw_c.specs.declared.codes.TheConstants.{ABSENT, BAD_COMMITTEE, CLOSED, NO_MEMORY, OPEN, OTHER_KIND};
+ghost use Rattle.nw_c.specs.Codes.{IsFirstUnmet, IsOneOf};
+ghost use Rattle.nw_c.specs.declared.codes.TheConstants.{ABSENT, BAD_COMMITTEE, CLOSED, DONE, NO_MEMORY, OPEN, OTHER_KIND};
 ghost use Rattle.nw_c.specs.declared.content.Content.TheVariants as kind;
 
 use crate::codes::{ABSENT, BAD_COMMITTEE, CLOSED, DONE, NO_MEMORY, OPEN, OTHER_KIND};
@@ -40,7 +41,7 @@ fn members_of(alloc: Global, listed: &[CMember]) -> Result<Vec<Member>, NoMemory
 /// The committee of these members. The error is the code to return.
 fn committee_of(alloc: Global, listed: &[CMember]) -> Result<Shared<Committee>, i32>
     ensures made { IfOk result (λ committee. committee ≡ map member_in listed.now) }
-    ensures refused { IfErr result (λ why. (why ≡ pos 0 → ⊥) × (why ≡ OPEN → ⊥)) }
+    ensures named { IfErr result (IsOneOf (NO_MEMORY ∷ BAD_COMMITTEE ∷ [])) }
     ensures bad_committee { IfErr result
         (λ why. why ≡ BAD_COMMITTEE → IsValid (map member_in listed.now) → ⊥) }
 {
@@ -98,8 +99,8 @@ pub extern "C" fn nw_committee_new(
     ensures made { result ≡ pos 0 → IsCommitteeOf members.now out.new.value }
     ensures unchanged { (result ≡ pos 0 → ⊥) → IsUnchanged out.old out.new }
     ensures opened { result ≡ pos 0 → out.new.held ≡ true }
-    ensures occupied { result ≡ OPEN → out.old.held ≡ true }
     ensures bad_committee { result ≡ BAD_COMMITTEE → IsValid (map member_in members.now) → ⊥ }
+    ensures code { IsFirstUnmet ((OPEN, out.old.held ≡ false) ∷ []) (DONE ∷ NO_MEMORY ∷ BAD_COMMITTEE ∷ []) result }
 {
     if out.is_open() {
         return OPEN;
@@ -121,9 +122,9 @@ pub extern "C" fn nw_committee_share(
     ensures same { IsUnchanged committee.old committee.new }
     ensures unchanged { (result ≡ pos 0 → ⊥) → IsUnchanged out.old out.new }
     ensures opened { result ≡ pos 0 → out.new.held ≡ true }
-    ensures occupied { result ≡ OPEN → out.old.held ≡ true }
-    ensures closed { result ≡ CLOSED → committee.old.held ≡ true → ⊥ }
-    ensures other_kind { result ≡ OTHER_KIND → HoldsCommittee committee.old.value → ⊥ }
+    ensures code { IsFirstUnmet
+        ((CLOSED, committee.old.held ≡ true) ∷ (OPEN, out.old.held ≡ false) ∷ (OTHER_KIND, HoldsCommittee committee.old.value) ∷ [])
+        (DONE ∷ NO_MEMORY ∷ []) result }
 {
     if !committee.is_open() {
         return CLOSED;
@@ -145,8 +146,10 @@ pub extern "C" fn nw_committee_share(
 pub extern "C" fn nw_committee_size(committee: &mut CommitteeHandle, out: &mut usize) -> i32
     ensures size { result ≡ pos 0 → HasSize committee.old.value out.new }
     ensures same { IsUnchanged committee.old committee.new }
-    ensures closed { result ≡ CLOSED → committee.old.held ≡ true → ⊥ }
-    ensures other_kind { result ≡ OTHER_KIND → HoldsCommittee committee.old.value → ⊥ }
+    ensures unchanged { (result ≡ pos 0 → ⊥) → out.new ≡ out.old }
+    ensures code { IsFirstUnmet
+        ((CLOSED, committee.old.held ≡ true) ∷ (OTHER_KIND, HoldsCommittee committee.old.value) ∷ [])
+        (DONE ∷ []) result }
 {
     if !committee.is_open() {
         return CLOSED;
@@ -169,9 +172,10 @@ pub extern "C" fn nw_committee_member(
 ) -> i32
     ensures member { result ≡ pos 0 → HasMember committee.old.value number out.new }
     ensures same { IsUnchanged committee.old committee.new }
-    ensures closed { result ≡ CLOSED → committee.old.held ≡ true → ⊥ }
-    ensures other_kind { result ≡ OTHER_KIND → HoldsCommittee committee.old.value → ⊥ }
-    ensures absent { result ≡ ABSENT → LacksMember committee.old.value number }
+    ensures unchanged { (result ≡ pos 0 → ⊥) → out.new ≡ out.old }
+    ensures code { IsFirstUnmet
+        ((CLOSED, committee.old.held ≡ true) ∷ (OTHER_KIND, HoldsCommittee committee.old.value) ∷ (ABSENT, LacksMember committee.old.value number → ⊥) ∷ [])
+        (DONE ∷ []) result }
 {
     if !committee.is_open() {
         return CLOSED;
@@ -194,8 +198,10 @@ pub extern "C" fn nw_committee_member(
 pub extern "C" fn nw_committee_quorum(committee: &mut CommitteeHandle, out: &mut u32) -> i32
     ensures quorum { result ≡ pos 0 → HasQuorum committee.old.value out.new }
     ensures same { IsUnchanged committee.old committee.new }
-    ensures closed { result ≡ CLOSED → committee.old.held ≡ true → ⊥ }
-    ensures other_kind { result ≡ OTHER_KIND → HoldsCommittee committee.old.value → ⊥ }
+    ensures unchanged { (result ≡ pos 0 → ⊥) → out.new ≡ out.old }
+    ensures code { IsFirstUnmet
+        ((CLOSED, committee.old.held ≡ true) ∷ (OTHER_KIND, HoldsCommittee committee.old.value) ∷ [])
+        (DONE ∷ []) result }
 {
     if !committee.is_open() {
         return CLOSED;

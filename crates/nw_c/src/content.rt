@@ -1,7 +1,8 @@
 //! The contents of handles.
-ghost use Rattle.std.specs.Prelude.{◌≡◌, ◌⊎◌, pos, true, false};
+ghost use Rattle.std.specs.Prelude.{◌≡◌, ◌∷◌, [], pos, true, false};
 ghost use Rattle.nw_c.specs.Kinds.{HoldsRoom, IsUnchanged};
-ghost use Rattle.nw_c.specs.declared.codes.TheConstants.{CLOSED, OTHER_KIND};
+ghost use Rattle.nw_c.specs.Codes.{IsFirstUnmet};
+ghost use Rattle.nw_c.specs.declared.codes.TheConstants.{CLOSED, DONE, OTHER_KIND};
 
 use crate::codes::{CLOSED, DONE, OTHER_KIND};
 use crate::given::Given;
@@ -46,7 +47,8 @@ pub enum Content {
 
 /// Whether an answer may replace this content: it is room, an answer, a ticket or a history.
 fn is_room(content: &Content) -> bool
-    ensures { result ≡ false → HoldsRoom content.now → ⊥ }
+    ensures room { result ≡ true → HoldsRoom content.now }
+    ensures other { result ≡ false → HoldsRoom content.now → ⊥ }
 {
     matches!(
         content,
@@ -57,12 +59,12 @@ fn is_room(content: &Content) -> bool
 /// Tests the handles of a call whose answer replaces the content of `answer`: `CLOSED` if one of them is closed, `OTHER_KIND` if an answer may
 /// not replace this content, and otherwise `DONE`.
 pub(crate) fn code_of_room(other: &mut Handle, answer: &mut Handle) -> i32
-    ensures code { (result ≡ CLOSED) ⊎ (result ≡ OTHER_KIND) ⊎ (result ≡ pos 0) }
     ensures same { other.new ≡ other.old }
     ensures answer { IsUnchanged answer.old answer.new }
-    ensures are_open { result ≡ pos 0 → (other.new.held ≡ true) × (answer.new.held ≡ true) }
-    ensures closed { result ≡ CLOSED → other.old.held ≡ true → answer.old.held ≡ true → ⊥ }
-    ensures other_kind { result ≡ OTHER_KIND → HoldsRoom answer.old.value → ⊥ }
+    ensures fits { result ≡ pos 0 → (other.old.held ≡ true) × (answer.old.held ≡ true) × HoldsRoom answer.old.value }
+    ensures code { IsFirstUnmet
+        ((CLOSED, (other.old.held ≡ true) × (answer.old.held ≡ true)) ∷ (OTHER_KIND, HoldsRoom answer.old.value) ∷ [])
+        (DONE ∷ []) result }
 {
     if !other.is_open() || !answer.is_open() {
         return CLOSED;

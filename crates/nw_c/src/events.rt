@@ -1,9 +1,10 @@
 //! The histories of answers and tickets, and their events.
-ghost use Rattle.std.specs.Prelude.{◌≡◌, pos, true};
+ghost use Rattle.std.specs.Prelude.{◌≡◌, ◌∷◌, [], pos, true, IfSome};
 ghost use Rattle.std.specs.Option.{option_copied};
 ghost use Rattle.nw_c.specs.Events.{ComparesHistories, HasEventAt, HasLength, HasNoEventAt, EncodesCall, EncodesEvent, front_in};
 ghost use Rattle.nw_c.specs.Kinds.{HasHistory, IsUnchanged};
-ghost use Rattle.nw_c.specs.declared.codes.TheConstants.{ABSENT, CLOSED, OTHER_KIND};
+ghost use Rattle.nw_c.specs.Codes.{IsFirstUnmet};
+ghost use Rattle.nw_c.specs.declared.codes.TheConstants.{ABSENT, CLOSED, DONE, OTHER_KIND};
 
 use crate::codes::{ABSENT, CLOSED, DONE, OTHER_KIND};
 use crate::content::Content;
@@ -76,7 +77,8 @@ fn event_told(event: &Event) -> CEvent
 
 /// The history of an answer or a ticket, or the history itself. `None` for any other content.
 pub(crate) fn front_of(content: &Content) -> Option<&Front<Ed25519>>
-    ensures { option_copied result ≡ front_in content.now }
+    ensures front { option_copied result ≡ front_in content.now }
+    ensures held { IfSome result (λ _. HasHistory content.now) }
 {
     match content {
         Content::Answer(done) => Some(done.front()),
@@ -92,8 +94,10 @@ pub(crate) fn front_of(content: &Content) -> Option<&Front<Ed25519>>
 pub extern "C" fn nw_answer_events(answer: &mut AnswerHandle, out: &mut usize) -> i32
     ensures events { result ≡ pos 0 → HasLength (front_in answer.old.value) out.new }
     ensures same { IsUnchanged answer.old answer.new }
-    ensures closed { result ≡ CLOSED → answer.old.held ≡ true → ⊥ }
-    ensures other_kind { result ≡ OTHER_KIND → HasHistory answer.old.value → ⊥ }
+    ensures unchanged { (result ≡ pos 0 → ⊥) → out.new ≡ out.old }
+    ensures code { IsFirstUnmet
+        ((CLOSED, answer.old.held ≡ true) ∷ (OTHER_KIND, HasHistory answer.old.value) ∷ [])
+        (DONE ∷ []) result }
 {
     if !answer.is_open() {
         return CLOSED;
@@ -113,9 +117,11 @@ pub extern "C" fn nw_answer_events(answer: &mut AnswerHandle, out: &mut usize) -
 pub extern "C" fn nw_answer_event(answer: &mut AnswerHandle, index: usize, out: &mut CEvent) -> i32
     ensures event { result ≡ pos 0 → HasEventAt (front_in answer.old.value) index out.new }
     ensures same { IsUnchanged answer.old answer.new }
-    ensures closed { result ≡ CLOSED → answer.old.held ≡ true → ⊥ }
-    ensures other_kind { result ≡ OTHER_KIND → HasHistory answer.old.value → ⊥ }
     ensures absent { result ≡ ABSENT → HasNoEventAt (front_in answer.old.value) index }
+    ensures unchanged { (result ≡ pos 0 → ⊥) → out.new ≡ out.old }
+    ensures code { IsFirstUnmet
+        ((CLOSED, answer.old.held ≡ true) ∷ (OTHER_KIND, HasHistory answer.old.value) ∷ [])
+        (DONE ∷ ABSENT ∷ []) result }
 {
     if !answer.is_open() {
         return CLOSED;
@@ -133,8 +139,9 @@ pub extern "C" fn nw_answer_event(answer: &mut AnswerHandle, index: usize, out: 
 }
 
 /// Writes whether the history of `answer` is a prefix of the history of `other`. It is if both have the same committee, limits and base, and the
-/// first events of `other` are the events of `answer`. The time grows with the number of these events and with the base. Both
-/// handles may be answers, tickets or histories.
+/// first events of `other` are the events of `answer`. Of a write or certificate that changed nothing, except after `NW_CLASH`, an event has
+/// only the subject, so its votes are not compared. The time grows with the number of these events and with the base. Both handles may be
+/// answers, tickets or histories.
 #[unsafe(no_mangle)]
 pub extern "C" fn nw_answer_is_prefix(
     answer: &mut AnswerHandle,
@@ -144,17 +151,20 @@ pub extern "C" fn nw_answer_is_prefix(
     ensures prefix { result ≡ pos 0 → ComparesHistories (front_in answer.old.value) (front_in other.old.value) out.new }
     ensures same { IsUnchanged answer.old answer.new }
     ensures other { IsUnchanged other.old other.new }
-    ensures closed { result ≡ CLOSED → answer.old.held ≡ true → other.old.held ≡ true → ⊥ }
-    ensures other_kind { result ≡ OTHER_KIND → HasHistory answer.old.value → HasHistory other.old.value → ⊥ }
+    ensures unchanged { (result ≡ pos 0 → ⊥) → out.new ≡ out.old }
+    ensures code { IsFirstUnmet
+        ((CLOSED, (answer.old.held ≡ true) × (other.old.held ≡ true)) ∷ (OTHER_KIND, HasHistory answer.old.value × HasHistory other.old.value) ∷ [])
+        (DONE ∷ []) result }
 {
     if !answer.is_open() || !other.is_open() {
         return CLOSED;
     }
-    match (front_of(answer.lend()), front_of(other.lend())) {
-        (Some(front), Some(other)) => {
-            *out = front.is_prefix_of(other);
-            DONE
-        }
-        _ => OTHER_KIND,
-    }
+    let Some(front) = front_of(answer.lend()) else {
+        return OTHER_KIND;
+    };
+    let Some(other) = front_of(other.lend()) else {
+        return OTHER_KIND;
+    };
+    *out = front.is_prefix_of(other);
+    DONE
 }

@@ -1,12 +1,12 @@
 //! Gathering votes into a certificate.
-ghost use Rattle.std.specs.Prelude.{◌≡◌, ◌^◌, ◌≤◌, pos, true};
+ghost use Rattle.std.specs.Prelude.{◌≡◌, ◌^◌, ◌∷◌, ◌<◌, [], pos, true, false};
 ghost use Rattle.nw_ed25519.specs.Accepts.{accepts};
 ghost use Rattle.nw_check.specs.declared.fault.GatherFault.{GatherFault as Fault};
-ghost use Rattle.nw_c.specs.Codes.{gather_code};
 ghost use Rattle.nw_c.specs.Committees.{LacksMember};
 ghost use Rattle.nw_c.specs.Gathers.{HasFewVotes, IsCertificateOf, IsCountedIn, IsNewGather, IsNotCounted};
 ghost use Rattle.nw_c.specs.Kinds.{IsUnchanged, HoldsCommittee, HoldsGather, HoldsVote};
-ghost use Rattle.nw_c.specs.declared.codes.TheConstants.{BAD_ROUND, CLOSED, FEW_VOTES, NO_MEMBER, OPEN, OTHER_KIND};
+ghost use Rattle.nw_c.specs.Codes.{IsFirstUnmet, gather_code};
+ghost use Rattle.nw_c.specs.declared.codes.TheConstants.{BAD_ROUND, BAD_SIGNATURE, CLOSED, DONE, FEW_VOTES, NO_MEMBER, NO_MEMORY, OPEN, OTHER_BLOCK, OTHER_KIND, REPEATED};
 
 use crate::codes::{
     BAD_ROUND, CLOSED, DONE, FEW_VOTES, NO_MEMBER, NO_MEMORY, OPEN, OTHER_KIND, code_of_vote,
@@ -31,11 +31,9 @@ pub extern "C" fn nw_gather_new(
     ensures same { IsUnchanged committee.old committee.new }
     ensures unchanged { (result ≡ pos 0 → ⊥) → IsUnchanged out.old out.new }
     ensures opened { result ≡ pos 0 → out.new.held ≡ true }
-    ensures occupied { result ≡ OPEN → out.old.held ≡ true }
-    ensures closed { result ≡ CLOSED → committee.old.held ≡ true → ⊥ }
-    ensures other_kind { result ≡ OTHER_KIND → HoldsCommittee committee.old.value → ⊥ }
-    ensures bad_round { result ≡ BAD_ROUND → 2 ^ 48 ≤ subject.now.round }
-    ensures no_member { result ≡ NO_MEMBER → LacksMember committee.old.value subject.now.author }
+    ensures code { IsFirstUnmet
+        ((CLOSED, committee.old.held ≡ true) ∷ (OPEN, out.old.held ≡ false) ∷ (OTHER_KIND, HoldsCommittee committee.old.value) ∷ (BAD_ROUND, subject.now.round < 2 ^ 48) ∷ (NO_MEMBER, LacksMember committee.old.value subject.now.author → ⊥) ∷ [])
+        (DONE ∷ NO_MEMORY ∷ []) result }
 {
     if !committee.is_open() {
         return CLOSED;
@@ -62,9 +60,9 @@ pub extern "C" fn nw_gather_new(
     }
 }
 
-/// Checks the signature of the vote and counts the vote. Writes to `quorum` whether the counted votes reach the quorum. Refuses a vote with
-/// `NW_OTHER_BLOCK`, `NW_REPEATED`, `NW_NO_MEMBER` or `NW_BAD_SIGNATURE`, the first that applies, and then changes nothing. Returns
-/// `NW_OTHER_KIND` if the checked text is not a vote.
+/// Checks the signature of the vote and counts the vote. Writes to `quorum` whether the counted votes reach the quorum. Refuses a vote with the
+/// first of `NW_OTHER_BLOCK`, `NW_REPEATED`, `NW_NO_MEMBER`, `NW_BAD_SIGNATURE` and `NW_NO_MEMORY` that applies, and then changes nothing.
+/// Returns `NW_OTHER_KIND` if the checked text is not a vote.
 #[unsafe(no_mangle)]
 pub extern "C" fn nw_gather_add(
     gather: &mut GatherHandle,
@@ -78,8 +76,10 @@ pub extern "C" fn nw_gather_add(
     ensures unchanged { (result ≡ pos 0 → ⊥) → IsUnchanged gather.old gather.new }
     ensures same { IsUnchanged vote.old vote.new }
     ensures stays { gather.new.held ≡ gather.old.held }
-    ensures closed { result ≡ CLOSED → gather.old.held ≡ true → vote.old.held ≡ true → ⊥ }
-    ensures other_kind { result ≡ OTHER_KIND → HoldsGather gather.old.value → HoldsVote vote.old.value → ⊥ }
+    ensures out { (result ≡ pos 0 → ⊥) → quorum.new ≡ quorum.old }
+    ensures code { IsFirstUnmet
+        ((CLOSED, (gather.old.held ≡ true) × (vote.old.held ≡ true)) ∷ (OTHER_KIND, HoldsGather gather.old.value × HoldsVote vote.old.value) ∷ [])
+        (DONE ∷ OTHER_BLOCK ∷ REPEATED ∷ NO_MEMBER ∷ BAD_SIGNATURE ∷ NO_MEMORY ∷ []) result }
 {
     if !gather.is_open() || !vote.is_open() {
         return CLOSED;
@@ -108,10 +108,9 @@ pub extern "C" fn nw_gather_certificate(
     ensures same { IsUnchanged gather.old gather.new }
     ensures unchanged { (result ≡ pos 0 → ⊥) → IsUnchanged out.old out.new }
     ensures opened { result ≡ pos 0 → out.new.held ≡ true }
-    ensures occupied { result ≡ OPEN → out.old.held ≡ true }
-    ensures closed { result ≡ CLOSED → gather.old.held ≡ true → ⊥ }
-    ensures other_kind { result ≡ OTHER_KIND → HoldsGather gather.old.value → ⊥ }
-    ensures few_votes { result ≡ FEW_VOTES → HasFewVotes gather.old.value }
+    ensures code { IsFirstUnmet
+        ((CLOSED, gather.old.held ≡ true) ∷ (OPEN, out.old.held ≡ false) ∷ (OTHER_KIND, HoldsGather gather.old.value) ∷ (FEW_VOTES, HasFewVotes gather.old.value → ⊥) ∷ [])
+        (DONE ∷ NO_MEMORY ∷ []) result }
 {
     if !gather.is_open() {
         return CLOSED;

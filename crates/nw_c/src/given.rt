@@ -1,9 +1,11 @@
 //! The sessions that are given to a settlement.
 ghost use Rattle.std.specs.Prelude.{◌≡◌, ◌++◌, ◌∷◌, [], All, IfErr, IfNone, IfOk, IfSome, OnErr, OnOk, map};
+ghost use Rattle.std.specs.List.{Contains};
 ghost use Rattle.nw_ed25519.specs.Accepts.{accepts};
 ghost use Rattle.nw_book.specs.Journal.{IsHistoryOf, origin_of};
 ghost use Rattle.nw_book.specs.Settled.{AreSettled};
-ghost use Rattle.nw_shared_store.specs.Settlement.{kept};
+ghost use Rattle.nw_shared_store.specs.Recorded.{AreRecorded};
+ghost use Rattle.nw_shared_store.specs.Settlement.{AreUnsettled, StillKnow, kept};
 
 use nw_ed25519::Ed25519;
 use nw_history::Front;
@@ -69,6 +71,10 @@ impl Given {
         ensures settled { IfOk result (λ history. AreSettled history (map (λ s. s.journal) self.new)) }
         ensures of_store { IfOk result (λ history.
             All (λ s. IsHistoryOf accepts (origin_of s.first) history) self.new) }
+        ensures recorded { IfOk result (λ history. AreRecorded history.events) }
+        ensures know { IfOk result (λ history. All (λ s. Contains s.journal.known history) self.new) }
+        ensures knew { StillKnow self.old self.new }
+        ensures refused { IfErr result (AreUnsettled accepts self.old self.new) }
         ensures kept { map kept self.new ≡ map kept self.old }
     {
         settle(self.sessions.as_mut_slice())

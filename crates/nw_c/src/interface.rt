@@ -8,7 +8,7 @@ ghost use Rattle.nw_c.specs.Interface.{interface, version};
 pub extern "C" fn nw_version() -> i32
     ensures { result ≡ pos version }
 {
-    100
+    200
 }
 
 /// Returns `NW_ABI`, the number of this interface. The number is in the name too, and changes with each change of an export, a struct or

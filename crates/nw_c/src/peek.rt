@@ -1,11 +1,12 @@
 //! What the first bytes of a text say.
-ghost use Rattle.std.specs.Prelude.{◌≡◌, ◌↔◌, pos};
+ghost use Rattle.std.specs.Prelude.{◌≡◌, ◌∷◌, [], pos};
 ghost use Rattle.nw_codec.specs.declared.message.Message.{Message};
 ghost use Rattle.nw_decode.specs.declared.peek.Peek.{Peek};
 ghost use Rattle.nw_decode.specs.Peek.{peek_of, BeginsWith, HasPeek};
 ghost use Rattle.nw_codec.specs.Spelled.{Spells};
 ghost use Rattle.nw_c.specs.Messages.{IsPeekOf};
-ghost use Rattle.nw_c.specs.declared.codes.TheConstants.{ABSENT};
+ghost use Rattle.nw_c.specs.Codes.{IsFirstUnmet};
+ghost use Rattle.nw_c.specs.declared.codes.TheConstants.{ABSENT, DONE};
 
 use crate::codes::{ABSENT, DONE};
 use crate::messages::{BLOCK, CERTIFICATE, CMessage, VOTE, about};
@@ -22,10 +23,8 @@ use nw_digest::Digest;
 pub extern "C" fn nw_peek(text: &[u8], out: &mut CMessage) -> i32
     ensures known { (m : Message) → Spells text.now m → (result ≡ pos 0) × IsPeekOf (peek_of m) out.new }
     ensures told { result ≡ pos 0 → (p : Peek) × BeginsWith text.now p × IsPeekOf p out.new }
-    ensures found { (result ≡ pos 0) ↔ HasPeek text.now }
-    ensures absent { result ≡ ABSENT → HasPeek text.now → ⊥ }
-    ensures refused { (result ≡ pos 0 → ⊥) → result ≡ ABSENT }
     ensures unchanged { (result ≡ pos 0 → ⊥) → out.new ≡ out.old }
+    ensures code { IsFirstUnmet ((ABSENT, HasPeek text.now) ∷ []) (DONE ∷ []) result }
 {
     match peek_message(text) {
         Some(peek) => {

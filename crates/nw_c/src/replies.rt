@@ -1,9 +1,10 @@
 //! Replies as C sees them.
-ghost use Rattle.std.specs.Prelude.{◌≡◌, pos, true};
+ghost use Rattle.std.specs.Prelude.{◌≡◌, ◌∷◌, [], pos, true};
 ghost use Rattle.nw_model.specs.declared.reply.Reply.TheVariants as Reply;
 ghost use Rattle.nw_c.specs.Replies.{EncodesReply, EncodesReplyTo};
 ghost use Rattle.nw_c.specs.Kinds.{HoldsReply, IsUnchanged};
-ghost use Rattle.nw_c.specs.declared.codes.TheConstants.{CLOSED, OTHER_KIND};
+ghost use Rattle.nw_c.specs.Codes.{IsFirstUnmet};
+ghost use Rattle.nw_c.specs.declared.codes.TheConstants.{CLOSED, DONE, OTHER_KIND};
 
 use crate::codes::{CLOSED, DONE, OTHER_KIND};
 use crate::content::Content;
@@ -43,7 +44,7 @@ pub(crate) const FOUND: i32 = 213;
 pub(crate) const UNKNOWN: i32 = 214;
 /// Causal read: the digest is not certified.
 pub(crate) const UNCERTIFIED: i32 = 215;
-/// Causal read: an ancestor is missing or not certified.
+/// Causal read: an ancestor has a parent that is not stored and certified with the named author and the preceding round.
 pub(crate) const INCOMPLETE: i32 = 216;
 /// Causal read: the answer is a ticket, whose list can be walked.
 pub(crate) const READY: i32 = 217;
@@ -110,13 +111,16 @@ pub(crate) fn reply_told(reply: &Reply) -> CTagged
     }
 }
 
-/// Writes the reply of the answer. The reply of a ticket is `NW_READY`.
+/// Writes the reply of the answer. The reply of a ticket is `NW_READY`. Returns `NW_OTHER_KIND` for a history, and for room without an
+/// answer.
 #[unsafe(no_mangle)]
 pub extern "C" fn nw_answer_reply(answer: &mut AnswerHandle, out: &mut CTagged) -> i32
     ensures reply { result ≡ pos 0 → EncodesReply answer.old.value out.new }
     ensures same { IsUnchanged answer.old answer.new }
-    ensures closed { result ≡ CLOSED → answer.old.held ≡ true → ⊥ }
-    ensures other_kind { result ≡ OTHER_KIND → HoldsReply answer.old.value → ⊥ }
+    ensures unchanged { (result ≡ pos 0 → ⊥) → out.new ≡ out.old }
+    ensures code { IsFirstUnmet
+        ((CLOSED, answer.old.held ≡ true) ∷ (OTHER_KIND, HoldsReply answer.old.value) ∷ [])
+        (DONE ∷ []) result }
 {
     if !answer.is_open() {
         return CLOSED;

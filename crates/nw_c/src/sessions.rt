@@ -1,12 +1,13 @@
 //! Sessions of stores: their numbers, and handing in blocks and certificates.
-ghost use Rattle.std.specs.Prelude.{◌≡◌, ◌⊎◌, pos, true};
+ghost use Rattle.std.specs.Prelude.{◌≡◌, ◌∷◌, [], pos, true};
 ghost use Rattle.nw_ed25519.specs.Accepts.{accepts};
 ghost use Rattle.nw_book.specs.Command.{call_of, committee_of};
 ghost use Rattle.nw_shared_store.specs.declared.error.Refusal.{Refusal};
 ghost use Rattle.nw_c.specs.Kinds.{CanBeHandedIn, HoldsRoom, HoldsSession, IsUnchanged};
 ghost use Rattle.nw_c.specs.Sessions.{HasNumber, IsCalled, IsHandedInBy, IsRefusedTo, IsUnderOwn, committee_checked_under};
 ghost use Rattle.nw_c.specs.Stores.{refusal_code};
-ghost use Rattle.nw_c.specs.declared.codes.TheConstants.{BAD_ROUND, CLOSED, OTHER_KIND};
+ghost use Rattle.nw_c.specs.Codes.{IsFirstUnmet, IsOneOf, call_codes, early_codes};
+ghost use Rattle.nw_c.specs.declared.codes.TheConstants.{CLOSED, DONE, OTHER_KIND};
 
 use crate::codes::{CLOSED, DONE, OTHER_KIND};
 use crate::content::{Content, code_of_room};
@@ -26,8 +27,10 @@ mod runs;
 pub extern "C" fn nw_session_id(session: &mut SessionHandle, out: &mut u16) -> i32
     ensures id { result ≡ pos 0 → HasNumber session.old.value out.new }
     ensures same { IsUnchanged session.old session.new }
-    ensures closed { result ≡ CLOSED → session.old.held ≡ true → ⊥ }
-    ensures other_kind { result ≡ OTHER_KIND → HoldsSession session.old.value → ⊥ }
+    ensures unchanged { (result ≡ pos 0 → ⊥) → out.new ≡ out.old }
+    ensures code { IsFirstUnmet
+        ((CLOSED, session.old.held ≡ true) ∷ (OTHER_KIND, HoldsSession session.old.value) ∷ [])
+        (DONE ∷ []) result }
 {
     if !session.is_open() {
         return CLOSED;
@@ -54,14 +57,14 @@ pub(crate) fn call(
     ensures own_committee { result ≡ pos 0
         → IsUnderOwn session.old.value (committee_of command.now) }
     ensures refused { (why : Refusal) → result ≡ refusal_code why
-        → IsRefusedTo accepts session.old.value (committee_of command.now) why }
-    ensures unchanged { (result ≡ pos 0 → ⊥) → IsUnchanged session.old session.new }
+        → IsRefusedTo accepts session.old.value session.new.value (committee_of command.now) why }
+    ensures unchanged { IsOneOf early_codes result → IsUnchanged session.old session.new }
     ensures answer { (result ≡ pos 0 → ⊥) → IsUnchanged answer.old answer.new }
     ensures stays { session.new.held ≡ session.old.held }
     ensures answer_stays { answer.new.held ≡ answer.old.held }
-    ensures closed { result ≡ CLOSED → session.old.held ≡ true → answer.old.held ≡ true → ⊥ }
-    ensures other_kind { result ≡ OTHER_KIND → HoldsSession session.old.value → HoldsRoom answer.old.value → ⊥ }
-    ensures not_bad_round { result ≡ BAD_ROUND → ⊥ }
+    ensures code { IsFirstUnmet
+        ((CLOSED, (session.old.held ≡ true) × (answer.old.held ≡ true)) ∷ (OTHER_KIND, HoldsSession session.old.value × HoldsRoom answer.old.value) ∷ [])
+        call_codes result }
 {
     let code = code_of_room(session, answer);
     if code != DONE {
@@ -95,14 +98,15 @@ pub extern "C" fn nw_session_hand_in(
     ensures own_committee { result ≡ pos 0
         → IsUnderOwn session.old.value (committee_checked_under checked.old.value) }
     ensures refused { (why : Refusal) → result ≡ refusal_code why
-        → IsRefusedTo accepts session.old.value (committee_checked_under checked.old.value) why }
-    ensures unchanged { (result ≡ pos 0 → ⊥) → IsUnchanged session.old session.new }
+        → IsRefusedTo accepts session.old.value session.new.value (committee_checked_under checked.old.value) why }
+    ensures unchanged { IsOneOf early_codes result → IsUnchanged session.old session.new }
     ensures answer { (result ≡ pos 0 → ⊥) → IsUnchanged answer.old answer.new }
     ensures same { IsUnchanged checked.old checked.new }
     ensures stays { session.new.held ≡ session.old.held }
     ensures answer_stays { answer.new.held ≡ answer.old.held }
-    ensures closed { result ≡ CLOSED → session.old.held ≡ true → checked.old.held ≡ true → answer.old.held ≡ true → ⊥ }
-    ensures other_kind { result ≡ OTHER_KIND → CanBeHandedIn checked.old.value → HoldsSession session.old.value → HoldsRoom answer.old.value → ⊥ }
+    ensures code { IsFirstUnmet
+        ((CLOSED, (session.old.held ≡ true) × (checked.old.held ≡ true) × (answer.old.held ≡ true)) ∷ (OTHER_KIND, HoldsSession session.old.value × CanBeHandedIn checked.old.value × HoldsRoom answer.old.value) ∷ [])
+        call_codes result }
 {
     if !checked.is_open() {
         return CLOSED;
@@ -123,10 +127,9 @@ pub extern "C" fn nw_session_hand_in(
 
 /// The code of a call with a third handle of another kind: `CLOSED` if one of these two is closed, and otherwise `OTHER_KIND`.
 fn code_of_other_kind(session: &mut Handle, answer: &mut Handle) -> i32
-    ensures code { (result ≡ CLOSED) ⊎ (result ≡ OTHER_KIND) }
     ensures same { IsUnchanged session.old session.new }
     ensures answer { IsUnchanged answer.old answer.new }
-    ensures closed { result ≡ CLOSED → session.old.held ≡ true → answer.old.held ≡ true → ⊥ }
+    ensures code { IsFirstUnmet ((CLOSED, (session.old.held ≡ true) × (answer.old.held ≡ true)) ∷ []) (OTHER_KIND ∷ []) result }
 {
     if session.is_open() && answer.is_open() {
         OTHER_KIND

@@ -1,9 +1,10 @@
 //! Settlement: the sessions of a store are given, and their calls of one run together are its history.
-ghost use Rattle.std.specs.Prelude.{◌≡◌, pos, true, false};
+ghost use Rattle.std.specs.Prelude.{◌≡◌, ◌∷◌, [], pos, true, false};
 ghost use Rattle.nw_ed25519.specs.Accepts.{accepts};
 ghost use Rattle.nw_c.specs.Kinds.{HoldsRoom, HoldsSession, HoldsSettlement, IsUnchanged};
-ghost use Rattle.nw_c.specs.Stores.{IsEmptySettlement, IsGiven, IsSettled, kept_in};
-ghost use Rattle.nw_c.specs.declared.codes.TheConstants.{ABSENT, CLOSED, OPEN, OTHER_KIND};
+ghost use Rattle.nw_c.specs.Stores.{IsEmptySettlement, IsGiven, IsSettled, IsUnsettled, StillKnowAll, kept_in};
+ghost use Rattle.nw_c.specs.Codes.{IsFirstUnmet, IsOneOf, look_codes};
+ghost use Rattle.nw_c.specs.declared.codes.TheConstants.{ABSENT, CLOSED, DONE, NO_MEMORY, OPEN, OTHER_KIND, UNSETTLED};
 
 use crate::codes::{ABSENT, CLOSED, DONE, NO_MEMORY, OPEN, OTHER_KIND, UNSETTLED};
 use crate::content::{Content, code_of_room};
@@ -19,7 +20,7 @@ pub extern "C" fn nw_settlement_new(alloc: Global, out: &mut SettlementHandle) -
     ensures made { result ≡ pos 0 → IsEmptySettlement out.new.value }
     ensures unchanged { (result ≡ pos 0 → ⊥) → IsUnchanged out.old out.new }
     ensures opened { result ≡ pos 0 → out.new.held ≡ true }
-    ensures occupied { result ≡ OPEN → out.old.held ≡ true }
+    ensures code { IsFirstUnmet ((OPEN, out.old.held ≡ false) ∷ []) (DONE ∷ NO_MEMORY ∷ []) result }
 {
     if out.is_open() {
         return OPEN;
@@ -39,8 +40,9 @@ pub extern "C" fn nw_settlement_give(
     ensures unchanged { (result ≡ pos 0 → ⊥) → IsUnchanged settlement.old settlement.new }
     ensures session { (result ≡ pos 0 → ⊥) → IsUnchanged session.old session.new }
     ensures stays { settlement.new.held ≡ settlement.old.held }
-    ensures closed { result ≡ CLOSED → settlement.old.held ≡ true → session.old.held ≡ true → ⊥ }
-    ensures other_kind { result ≡ OTHER_KIND → HoldsSettlement settlement.old.value → HoldsSession session.old.value → ⊥ }
+    ensures code { IsFirstUnmet
+        ((CLOSED, (settlement.old.held ≡ true) × (session.old.held ≡ true)) ∷ (OTHER_KIND, HoldsSettlement settlement.old.value × HoldsSession session.old.value) ∷ [])
+        (DONE ∷ NO_MEMORY ∷ []) result }
 {
     if !settlement.is_open() || !session.is_open() {
         return CLOSED;
@@ -69,17 +71,25 @@ pub extern "C" fn nw_settlement_give(
 /// Settles the sessions that were given, which must be all that one store made, in the order of their numbers, and of the present run. It
 /// replaces the content of `answer` with the run's history, which is an interleaving of their calls in this run. The history of each answer to
 /// these calls is a prefix of it. The sessions stay with the settlement. Returns `NW_BUSY` if another thread has a store's lock, `NW_ENDED` if
-/// the run of a session has ended, and `NW_UNSETTLED` if they are not all sessions of one store or not in order. For each
-/// session, the time grows with the number of events and with the state that the history started from.
+/// the run of a session has ended, and `NW_UNSETTLED` if they are not all sessions of one store, not in order, or none. It takes two stores
+/// with equal histories for one. For each session, the time grows with the number of events and with the state that the history started
+/// from.
+#[tactic(auto, using(crate::proofs::Unread::unread))]
 #[unsafe(no_mangle)]
 pub extern "C" fn nw_settle(settlement: &mut SettlementHandle, answer: &mut AnswerHandle) -> i32
     ensures settled { result ≡ pos 0 → IsSettled accepts settlement.new.value answer.new.value }
+    ensures unsettled { result ≡ UNSETTLED
+        → IsUnsettled accepts settlement.old.value settlement.new.value }
+    ensures knew { (IsOneOf (CLOSED ∷ OTHER_KIND ∷ []) result → ⊥)
+        → StillKnowAll settlement.old.value settlement.new.value }
+    ensures unchanged { IsOneOf (CLOSED ∷ OTHER_KIND ∷ []) result → IsUnchanged settlement.old settlement.new }
     ensures kept { kept_in settlement.new.value ≡ kept_in settlement.old.value }
     ensures answer { (result ≡ pos 0 → ⊥) → IsUnchanged answer.old answer.new }
     ensures stays { settlement.new.held ≡ settlement.old.held }
     ensures answer_stays { answer.new.held ≡ answer.old.held }
-    ensures closed { result ≡ CLOSED → settlement.old.held ≡ true → answer.old.held ≡ true → ⊥ }
-    ensures other_kind { result ≡ OTHER_KIND → HoldsSettlement settlement.old.value → HoldsRoom answer.old.value → ⊥ }
+    ensures code { IsFirstUnmet
+        ((CLOSED, (settlement.old.held ≡ true) × (answer.old.held ≡ true)) ∷ (OTHER_KIND, HoldsSettlement settlement.old.value × HoldsRoom answer.old.value) ∷ [])
+        (UNSETTLED ∷ look_codes) result }
 {
     let code = code_of_room(settlement, answer);
     if code != DONE {
@@ -93,8 +103,9 @@ pub extern "C" fn nw_settle(settlement: &mut SettlementHandle, answer: &mut Answ
             *answer.lend() = Content::History(history);
             DONE
         }
+        Err(SettleFault::Unfinished { .. }) => UNSETTLED,
+        Err(SettleFault::Differs { .. }) => UNSETTLED,
         Err(SettleFault::Refused(why)) => code_of_refusal(why),
-        Err(_) => UNSETTLED,
     }
 }
 
@@ -109,11 +120,11 @@ pub extern "C" fn nw_settlement_take(
     ensures unchanged { (result ≡ pos 0 → ⊥) → IsUnchanged settlement.old settlement.new }
     ensures out { (result ≡ pos 0 → ⊥) → IsUnchanged out.old out.new }
     ensures opened { result ≡ pos 0 → out.new.held ≡ true }
-    ensures occupied { result ≡ OPEN → out.old.held ≡ true }
     ensures stays { settlement.new.held ≡ settlement.old.held }
     ensures absent { result ≡ ABSENT → IsEmptySettlement settlement.old.value }
-    ensures closed { result ≡ CLOSED → settlement.old.held ≡ true → ⊥ }
-    ensures other_kind { result ≡ OTHER_KIND → HoldsSettlement settlement.old.value → ⊥ }
+    ensures code { IsFirstUnmet
+        ((CLOSED, settlement.old.held ≡ true) ∷ (OPEN, out.old.held ≡ false) ∷ (OTHER_KIND, HoldsSettlement settlement.old.value) ∷ [])
+        (DONE ∷ NO_MEMORY ∷ ABSENT ∷ []) result }
 {
     if !settlement.is_open() {
         return CLOSED;

@@ -1,11 +1,12 @@
 //! Digests, and the texts that members sign.
-ghost use Rattle.std.specs.Prelude.{◌≡◌, ◌^◌, ◌≤◌, ◌<◌, pos, take, length};
+ghost use Rattle.std.specs.Prelude.{◌≡◌, ◌^◌, ◌∷◌, ◌<◌, ◌≤◌, [], pos, take, length};
 ghost use Rattle.sha2.specs.Sha256.{sha256};
 ghost use Rattle.nw_codec.specs.Spelled.{Spells};
 ghost use Rattle.nw_sig.specs.Signed.{text_of_block, text_of_vote};
 ghost use Rattle.nw_c.specs.Plain.{IsTooLong, digest_in, subject_in};
 ghost use Rattle.nw_c.specs.Votes.{vote_of};
-ghost use Rattle.nw_c.specs.declared.codes.TheConstants.{BAD_ROUND, NO_MEMORY, SMALL};
+ghost use Rattle.nw_c.specs.Codes.{IsFirstUnmet};
+ghost use Rattle.nw_c.specs.declared.codes.TheConstants.{BAD_ROUND, DONE, SMALL};
 
 use crate::codes::{BAD_ROUND, DONE};
 use crate::plain::{CDigest, CSignature, CSubject};
@@ -51,7 +52,8 @@ pub extern "C" fn nw_text_of_block(digest: &CDigest, out: &mut CBlockText)
 #[unsafe(no_mangle)]
 pub extern "C" fn nw_text_of_vote(subject: &CSubject, out: &mut CVoteText) -> i32
     ensures text { result ≡ pos 0 → out.new.bytes ≡ text_of_vote (subject_in subject.now) }
-    ensures bad_round { result ≡ BAD_ROUND → 2 ^ 48 ≤ subject.now.round }
+    ensures unchanged { (result ≡ pos 0 → ⊥) → out.new ≡ out.old }
+    ensures code { IsFirstUnmet ((BAD_ROUND, subject.now.round < 2 ^ 48) ∷ []) (DONE ∷ []) result }
 {
     let Some(subject) = subject.get() else {
         return BAD_ROUND;
@@ -75,11 +77,13 @@ pub extern "C" fn nw_vote_message(
 ) -> i32
     ensures message { result ≡ pos 0 → Spells (take needed.new buffer.new)
         (vote_of subject.now signer signature.now) }
-    ensures bad_round { result ≡ BAD_ROUND → 2 ^ 48 ≤ subject.now.round }
-    ensures no_memory { result ≡ NO_MEMORY → ⊥ }
     ensures small { result ≡ SMALL
         → IsTooLong (λ text. Spells text (vote_of subject.now signer signature.now)) (length buffer.old) needed.new }
     ensures unchanged { (result ≡ pos 0 → ⊥) → buffer.new ≡ buffer.old }
+    ensures needed { (result ≡ pos 0 → ⊥) → (result ≡ SMALL → ⊥) → needed.new ≡ needed.old }
+    ensures code { IsFirstUnmet
+        ((BAD_ROUND, subject.now.round < 2 ^ 48) ∷ (SMALL, needed.new ≤ length buffer.old) ∷ [])
+        (DONE ∷ []) result }
 {
     let Some(subject) = subject.get() else {
         return BAD_ROUND;

@@ -1,11 +1,14 @@
 //! Stores that threads share: making and sharing them, what they were made with, and making sessions.
-ghost use Rattle.std.specs.Prelude.{◌≡◌, pos, true};
+ghost use Rattle.std.specs.Prelude.{◌≡◌, ◌∷◌, [], pos, true, false};
 ghost use Rattle.nw_history.specs.Limits.{AreInRange};
-ghost use Rattle.nw_shared_store.specs.Session.{IsPassing};
+ghost use Rattle.nw_book.specs.declared.error.NoStep.TheVariants as NoStep;
+ghost use Rattle.nw_ed25519.specs.Accepts.{accepts};
+ghost use Rattle.nw_shared_store.specs.Session.{IsPassing, IsUnavailable, IsUnseen};
 ghost use Rattle.nw_shared_store.specs.declared.error.Refusal.{Refusal};
 ghost use Rattle.nw_c.specs.Kinds.{HoldsCommittee, HoldsStore, IsUnchanged};
-ghost use Rattle.nw_c.specs.Stores.{AreOneStore, HasLimits, IsEmptyStore, IsNewSessionOf, IsUnder, limits_in, refusal_code};
-ghost use Rattle.nw_c.specs.declared.codes.TheConstants.{BAD_LIMITS, CLOSED, OPEN, OTHER_KIND};
+ghost use Rattle.nw_c.specs.Stores.{HasLimits, IsEmptyStore, IsShared, IsUnder, MakesNoSession, MakesSession, limits_in, refusal_code};
+ghost use Rattle.nw_c.specs.Codes.{IsFirstUnmet, IsOneOf, call_codes, look_codes};
+ghost use Rattle.nw_c.specs.declared.codes.TheConstants.{BAD_LIMITS, BUSY, CLOSED, DONE, ENDED, NO_MEMORY, OPEN, OTHER_KIND, TOO_MANY_SESSIONS};
 
 use crate::codes::{
     BAD_LIMITS, BUSY, CLOSED, DONE, ENDED, NO_MEMORY, OPEN, OTHER_KIND, TOO_MANY_SESSIONS,
@@ -47,7 +50,11 @@ impl CLimits {
 
 /// The code of a refusal.
 pub(crate) fn code_of_refusal(why: Refusal) -> i32
-    ensures { result ≡ refusal_code why }
+    ensures code { result ≡ refusal_code why }
+    ensures passing { IsPassing why → IsOneOf (BUSY ∷ NO_MEMORY ∷ []) result }
+    ensures unavailable { IsUnavailable why → IsOneOf (BUSY ∷ ENDED ∷ []) result }
+    ensures unseen { IsUnseen why → IsOneOf look_codes result }
+    ensures of_call { (why ≡ Refusal.TooMany → ⊥) → (why ≡ Refusal.NoStep NoStep.OutOfTurn → ⊥) → IsOneOf call_codes result }
 {
     match why {
         Refusal::Busy => BUSY,
@@ -71,10 +78,10 @@ pub extern "C" fn nw_store_new(
     ensures same { IsUnchanged committee.old committee.new }
     ensures unchanged { (result ≡ pos 0 → ⊥) → IsUnchanged out.old out.new }
     ensures opened { result ≡ pos 0 → out.new.held ≡ true }
-    ensures occupied { result ≡ OPEN → out.old.held ≡ true }
-    ensures closed { result ≡ CLOSED → committee.old.held ≡ true → ⊥ }
-    ensures other_kind { result ≡ OTHER_KIND → HoldsCommittee committee.old.value → ⊥ }
     ensures bad_limits { result ≡ BAD_LIMITS → AreInRange (limits_in limits.now) → ⊥ }
+    ensures code { IsFirstUnmet
+        ((CLOSED, committee.old.held ≡ true) ∷ (OPEN, out.old.held ≡ false) ∷ (OTHER_KIND, HoldsCommittee committee.old.value) ∷ [])
+        (DONE ∷ NO_MEMORY ∷ BAD_LIMITS ∷ []) result }
 {
     if !committee.is_open() {
         return CLOSED;
@@ -102,13 +109,14 @@ pub extern "C" fn nw_store_share(
     store: &mut StoreHandle,
     out: &mut StoreHandle,
 ) -> i32
-    ensures shared { result ≡ pos 0 → AreOneStore store.old.value out.new.value }
-    ensures same { IsUnchanged store.old store.new }
+    ensures shared { result ≡ pos 0 → IsShared store.old.value store.new.value out.new.value }
+    ensures store { (result ≡ pos 0 → ⊥) → IsUnchanged store.old store.new }
     ensures unchanged { (result ≡ pos 0 → ⊥) → IsUnchanged out.old out.new }
+    ensures stays { store.new.held ≡ store.old.held }
     ensures opened { result ≡ pos 0 → out.new.held ≡ true }
-    ensures occupied { result ≡ OPEN → out.old.held ≡ true }
-    ensures closed { result ≡ CLOSED → store.old.held ≡ true → ⊥ }
-    ensures other_kind { result ≡ OTHER_KIND → HoldsStore store.old.value → ⊥ }
+    ensures code { IsFirstUnmet
+        ((CLOSED, store.old.held ≡ true) ∷ (OPEN, out.old.held ≡ false) ∷ (OTHER_KIND, HoldsStore store.old.value) ∷ [])
+        (DONE ∷ NO_MEMORY ∷ []) result }
 {
     if !store.is_open() {
         return CLOSED;
@@ -116,12 +124,20 @@ pub extern "C" fn nw_store_share(
     if out.is_open() {
         return OPEN;
     }
-    match store.lend() {
-        Content::Store(held) => match held.share() {
-            Ok(shared) => put(alloc, out, Content::Store(shared)),
-            Err(_) => NO_MEMORY,
-        },
-        _ => OTHER_KIND,
+    let Content::Store(held) = store.lend() else {
+        return OTHER_KIND;
+    };
+    // The room comes first, because an owner that is made is counted.
+    let Some(mut other) = room(alloc) else {
+        return NO_MEMORY;
+    };
+    match held.share() {
+        Ok(shared) => {
+            *other = Content::Store(shared);
+            open(out, other);
+            DONE
+        }
+        Err(_) => NO_MEMORY,
     }
 }
 
@@ -133,13 +149,17 @@ pub extern "C" fn nw_store_session(
     store: &mut StoreHandle,
     out: &mut SessionHandle,
 ) -> i32
-    ensures made { result ≡ pos 0 → IsNewSessionOf store.old.value out.new.value }
-    ensures same { IsUnchanged store.old store.new }
+    ensures made { result ≡ pos 0
+        → MakesSession accepts store.old.value store.new.value out.new.value }
+    ensures refused { (why : Refusal) → result ≡ refusal_code why
+        → MakesNoSession store.old.value store.new.value why }
+    ensures store { (result ≡ pos 0 → ⊥) → (result ≡ TOO_MANY_SESSIONS → ⊥) → IsUnchanged store.old store.new }
+    ensures stays { store.new.held ≡ store.old.held }
     ensures unchanged { (result ≡ pos 0 → ⊥) → IsUnchanged out.old out.new }
     ensures opened { result ≡ pos 0 → out.new.held ≡ true }
-    ensures occupied { result ≡ OPEN → out.old.held ≡ true }
-    ensures closed { result ≡ CLOSED → store.old.held ≡ true → ⊥ }
-    ensures other_kind { result ≡ OTHER_KIND → HoldsStore store.old.value → ⊥ }
+    ensures code { IsFirstUnmet
+        ((CLOSED, store.old.held ≡ true) ∷ (OPEN, out.old.held ≡ false) ∷ (OTHER_KIND, HoldsStore store.old.value) ∷ [])
+        (DONE ∷ BUSY ∷ TOO_MANY_SESSIONS ∷ NO_MEMORY ∷ []) result }
 {
     if !store.is_open() {
         return CLOSED;
@@ -168,11 +188,11 @@ pub extern "C" fn nw_store_session(
 #[unsafe(no_mangle)]
 pub extern "C" fn nw_store_limits(store: &mut StoreHandle, out: &mut CLimits) -> i32
     ensures limits { result ≡ pos 0 → HasLimits store.old.value out.new }
-    ensures refused { (why : Refusal) → result ≡ refusal_code why → IsPassing why }
     ensures same { IsUnchanged store.old store.new }
     ensures unchanged { (result ≡ pos 0 → ⊥) → out.new ≡ out.old }
-    ensures closed { result ≡ CLOSED → store.old.held ≡ true → ⊥ }
-    ensures other_kind { result ≡ OTHER_KIND → HoldsStore store.old.value → ⊥ }
+    ensures code { IsFirstUnmet
+        ((CLOSED, store.old.held ≡ true) ∷ (OTHER_KIND, HoldsStore store.old.value) ∷ [])
+        (DONE ∷ BUSY ∷ NO_MEMORY ∷ []) result }
 {
     if !store.is_open() {
         return CLOSED;
@@ -204,13 +224,12 @@ pub extern "C" fn nw_store_committee(
     out: &mut CommitteeHandle,
 ) -> i32
     ensures committee { result ≡ pos 0 → IsUnder store.old.value out.new.value }
-    ensures refused { (why : Refusal) → result ≡ refusal_code why → IsPassing why }
     ensures same { IsUnchanged store.old store.new }
     ensures unchanged { (result ≡ pos 0 → ⊥) → IsUnchanged out.old out.new }
     ensures opened { result ≡ pos 0 → out.new.held ≡ true }
-    ensures occupied { result ≡ OPEN → out.old.held ≡ true }
-    ensures closed { result ≡ CLOSED → store.old.held ≡ true → ⊥ }
-    ensures other_kind { result ≡ OTHER_KIND → HoldsStore store.old.value → ⊥ }
+    ensures code { IsFirstUnmet
+        ((CLOSED, store.old.held ≡ true) ∷ (OPEN, out.old.held ≡ false) ∷ (OTHER_KIND, HoldsStore store.old.value) ∷ [])
+        (DONE ∷ BUSY ∷ NO_MEMORY ∷ []) result }
 {
     if !store.is_open() {
         return CLOSED;
@@ -235,10 +254,10 @@ pub extern "C" fn nw_store_committee(
 /// tickets keep theirs. It changes nothing that a call can observe. Returns `NW_BUSY` if another thread has the lock.
 #[unsafe(no_mangle)]
 pub extern "C" fn nw_store_compact(alloc: Global, store: &mut StoreHandle) -> i32
-    ensures refused { (why : Refusal) → result ≡ refusal_code why → IsPassing why }
     ensures same { IsUnchanged store.old store.new }
-    ensures closed { result ≡ CLOSED → store.old.held ≡ true → ⊥ }
-    ensures other_kind { result ≡ OTHER_KIND → HoldsStore store.old.value → ⊥ }
+    ensures code { IsFirstUnmet
+        ((CLOSED, store.old.held ≡ true) ∷ (OTHER_KIND, HoldsStore store.old.value) ∷ [])
+        (DONE ∷ BUSY ∷ NO_MEMORY ∷ []) result }
 {
     if !store.is_open() {
         return CLOSED;

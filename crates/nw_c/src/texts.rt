@@ -1,11 +1,12 @@
 //! Writing texts to the caller's buffer.
-ghost use Rattle.std.specs.Prelude.{◌≡◌, ◌<◌, pos, take, length};
+ghost use Rattle.std.specs.Prelude.{◌≡◌, ◌∷◌, ◌<◌, ◌≤◌, [], pos, take, length};
 ghost use Rattle.nw_codec.specs.Fits.{CertificateFits, Fits, body_size};
 ghost use Rattle.nw_codec.specs.Grammar.{body};
 ghost use Rattle.nw_codec.specs.Spelled.{Spells};
 ghost use Rattle.nw_codec.specs.declared.message.Message.TheVariants as Message;
+ghost use Rattle.nw_c.specs.Codes.{IsFirstUnmet};
 ghost use Rattle.nw_c.specs.Plain.{IsTooLong};
-ghost use Rattle.nw_c.specs.declared.codes.TheConstants.{SMALL};
+ghost use Rattle.nw_c.specs.declared.codes.TheConstants.{DONE, SMALL};
 
 use crate::codes::{DONE, SMALL};
 use nw_codec::{Block, Certificate, Signature, Vote};
@@ -14,9 +15,9 @@ use nw_codec::{Block, Certificate, Signature, Vote};
 pub(crate) fn hand_out_body(block: &Block, buffer: &mut [u8], needed: &mut usize) -> i32
     requires { Fits block.now }
     ensures written { result ≡ pos 0 → take needed.new buffer.new ≡ body block.now }
-    ensures small { (result ≡ pos 0 → ⊥)
-        → (result ≡ SMALL) × (needed.new ≡ body_size block.now) × (length buffer.old < needed.new) }
+    ensures small { result ≡ SMALL → (needed.new ≡ body_size block.now) × (length buffer.old < needed.new) }
     ensures unchanged { (result ≡ pos 0 → ⊥) → buffer.new ≡ buffer.old }
+    ensures code { IsFirstUnmet ((SMALL, needed.new ≤ length buffer.old) ∷ []) (DONE ∷ []) result }
 {
     *needed = block.body_size();
     if buffer.len() < *needed {
@@ -35,9 +36,10 @@ pub(crate) fn hand_out_block(
 ) -> i32
     requires { Fits block.now }
     ensures written { result ≡ pos 0 → Spells (take needed.new buffer.new) (Message.Block block.now signature.now) }
-    ensures small { (result ≡ pos 0 → ⊥) → (result ≡ SMALL)
-        × IsTooLong (λ text. Spells text (Message.Block block.now signature.now)) (length buffer.old) needed.new }
+    ensures small { result ≡ SMALL
+        → IsTooLong (λ text. Spells text (Message.Block block.now signature.now)) (length buffer.old) needed.new }
     ensures unchanged { (result ≡ pos 0 → ⊥) → buffer.new ≡ buffer.old }
+    ensures code { IsFirstUnmet ((SMALL, needed.new ≤ length buffer.old) ∷ []) (DONE ∷ []) result }
 {
     *needed = block.message_size();
     if buffer.len() < *needed {
@@ -55,9 +57,10 @@ pub(crate) fn hand_out_certificate(
 ) -> i32
     requires { CertificateFits certificate.now }
     ensures written { result ≡ pos 0 → Spells (take needed.new buffer.new) (Message.Certificate certificate.now) }
-    ensures small { (result ≡ pos 0 → ⊥) → (result ≡ SMALL)
-        × IsTooLong (λ text. Spells text (Message.Certificate certificate.now)) (length buffer.old) needed.new }
+    ensures small { result ≡ SMALL
+        → IsTooLong (λ text. Spells text (Message.Certificate certificate.now)) (length buffer.old) needed.new }
     ensures unchanged { (result ≡ pos 0 → ⊥) → buffer.new ≡ buffer.old }
+    ensures code { IsFirstUnmet ((SMALL, needed.new ≤ length buffer.old) ∷ []) (DONE ∷ []) result }
 {
     *needed = certificate.message_size();
     if buffer.len() < *needed {
@@ -70,9 +73,10 @@ pub(crate) fn hand_out_certificate(
 /// Does the same for the message of the vote.
 pub(crate) fn hand_out_vote(vote: &Vote, buffer: &mut [u8], needed: &mut usize) -> i32
     ensures written { result ≡ pos 0 → Spells (take needed.new buffer.new) (Message.Vote vote.now) }
-    ensures small { (result ≡ pos 0 → ⊥) → (result ≡ SMALL)
-        × IsTooLong (λ text. Spells text (Message.Vote vote.now)) (length buffer.old) needed.new }
+    ensures small { result ≡ SMALL
+        → IsTooLong (λ text. Spells text (Message.Vote vote.now)) (length buffer.old) needed.new }
     ensures unchanged { (result ≡ pos 0 → ⊥) → buffer.new ≡ buffer.old }
+    ensures code { IsFirstUnmet ((SMALL, needed.new ≤ length buffer.old) ∷ []) (DONE ∷ []) result }
 {
     *needed = vote.message_size();
     if buffer.len() < *needed {

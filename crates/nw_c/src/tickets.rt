@@ -1,10 +1,10 @@
 //! Tickets of causal reads, and the lists of their walks.
-ghost use Rattle.std.specs.Prelude.{◌≡◌, ◌↔◌, pos, IfOk, IfErr, IsTrue, true};
-ghost use Rattle.nw_book.specs.Ticket.{HaveOneList, IsListOf};
-ghost use Rattle.nw_c.specs.Tickets.{Agrees, AreApart, HasBlocks, HasNoBlockAt, IsAbout, IsBlockAt, IsWalkOf};
-ghost use Rattle.nw_c.specs.Tickets.{IsWhyApart};
+ghost use Rattle.std.specs.Prelude.{◌≡◌, ◌∷◌, [], pos, IfOk, OnErr, true, false};
+ghost use Rattle.nw_book.specs.Ticket.{IsAgreed, IsListOf, TicketView};
+ghost use Rattle.nw_c.specs.Tickets.{Agrees, AreComparable, AreCompared, HasBlocks, HasNoBlockAt, HaveOneScope, IsAbout, IsBlockAt, IsWalkOf};
 ghost use Rattle.nw_c.specs.Kinds.{IsUnchanged, HoldsList, HoldsTicket};
-ghost use Rattle.nw_c.specs.declared.codes.TheConstants.{ABSENT, NOT_COMPARABLE, CLOSED, OPEN, OTHER_KIND};
+ghost use Rattle.nw_c.specs.Codes.{IsFirstUnmet};
+ghost use Rattle.nw_c.specs.declared.codes.TheConstants.{ABSENT, CLOSED, DONE, NOT_COMPARABLE, NO_MEMORY, OPEN, OTHER_KIND};
 
 use crate::codes::{ABSENT, CLOSED, DONE, NO_MEMORY, NOT_COMPARABLE, OPEN, OTHER_KIND};
 use crate::content::Content;
@@ -22,12 +22,14 @@ use std::alloc::Global;
 pub extern "C" fn nw_ticket_scope(
     ticket: &mut AnswerHandle,
     digest: &mut CDigest,
-    floor: &mut u64,
+    garbage_round: &mut u64,
 ) -> i32
-    ensures about { result ≡ pos 0 → IsAbout ticket.old.value digest.new floor.new }
+    ensures about { result ≡ pos 0 → IsAbout ticket.old.value digest.new garbage_round.new }
     ensures same { IsUnchanged ticket.old ticket.new }
-    ensures closed { result ≡ CLOSED → ticket.old.held ≡ true → ⊥ }
-    ensures other_kind { result ≡ OTHER_KIND → HoldsTicket ticket.old.value → ⊥ }
+    ensures unchanged { (result ≡ pos 0 → ⊥) → (digest.new ≡ digest.old) × (garbage_round.new ≡ garbage_round.old) }
+    ensures code { IsFirstUnmet
+        ((CLOSED, ticket.old.held ≡ true) ∷ (OTHER_KIND, HoldsTicket ticket.old.value) ∷ [])
+        (DONE ∷ []) result }
 {
     if !ticket.is_open() {
         return CLOSED;
@@ -35,26 +37,42 @@ pub extern "C" fn nw_ticket_scope(
     match ticket.lend() {
         Content::Ticket(ticket) => {
             *digest = CDigest::of(&ticket.digest());
-            *floor = ticket.view().floor().get();
+            *garbage_round = ticket.view().floor().get();
             DONE
         }
         _ => OTHER_KIND,
     }
 }
 
-/// Whether the lists of both tickets are equal. The error is the code to return.
-fn agree(alloc: Global, one: &Ticket<Ed25519>, other: &Ticket<Ed25519>) -> Result<bool, i32>
-    ensures agrees { IfOk result (λ same. IsTrue same ↔ HaveOneList one.now other.now) }
-    ensures apart { IfErr result (IsWhyApart one.now other.now) }
+/// Tells what a comparison found: writes to `out` whether the lists are equal. Returns `NO_MEMORY` if it found nothing.
+fn tell(found: Result<Agreement, NoMemory>, out: &mut bool) -> i32
+    ensures told { IfOk found (λ agreement. (result ≡ pos 0)
+        × ((one other : TicketView) → IsAgreed one other agreement → AreCompared one other out.new)) }
+    ensures refused { OnErr found ((result ≡ NO_MEMORY) × (out.new ≡ out.old)) }
+{
+    match found {
+        Ok(Agreement::Same) => {
+            *out = true;
+            DONE
+        }
+        Ok(Agreement::Collision { .. }) => {
+            *out = false;
+            DONE
+        }
+        Err(_) => NO_MEMORY,
+    }
+}
+
+/// Compares the lists of both tickets. Returns `NOT_COMPARABLE` if they have different digests or garbage rounds.
+fn compare(alloc: Global, one: &Ticket<Ed25519>, other: &Ticket<Ed25519>, out: &mut bool) -> i32
+    ensures compared { result ≡ pos 0 → AreCompared one.now other.now out.new }
+    ensures unchanged { (result ≡ pos 0 → ⊥) → out.new ≡ out.old }
+    ensures code { IsFirstUnmet ((NOT_COMPARABLE, HaveOneScope one.now other.now) ∷ []) (DONE ∷ NO_MEMORY ∷ []) result }
 {
     if one.digest() != other.digest() || one.view().floor() != other.view().floor() {
-        return Err(NOT_COMPARABLE);
+        return NOT_COMPARABLE;
     }
-    match one.agree(alloc, other) {
-        Ok(Agreement::Same) => Ok(true),
-        Ok(Agreement::Collision { .. }) => Ok(false),
-        Err(_) => Err(NO_MEMORY),
-    }
+    tell(one.agree(alloc, other), out)
 }
 
 /// Compares the lists of both tickets, and writes whether they are equal. The tickets may come from two stores. If the lists differ, two
@@ -67,25 +85,23 @@ pub extern "C" fn nw_ticket_agree(
     out: &mut bool,
 ) -> i32
     ensures agrees { result ≡ pos 0 → Agrees ticket.old.value other.old.value out.new }
-    ensures apart { result ≡ NOT_COMPARABLE → AreApart ticket.old.value other.old.value }
     ensures same { IsUnchanged ticket.old ticket.new }
     ensures other { IsUnchanged other.old other.new }
-    ensures closed { result ≡ CLOSED → ticket.old.held ≡ true → other.old.held ≡ true → ⊥ }
-    ensures other_kind { result ≡ OTHER_KIND → HoldsTicket ticket.old.value → HoldsTicket other.old.value → ⊥ }
+    ensures unchanged { (result ≡ pos 0 → ⊥) → out.new ≡ out.old }
+    ensures code { IsFirstUnmet
+        ((CLOSED, (ticket.old.held ≡ true) × (other.old.held ≡ true)) ∷ (OTHER_KIND, HoldsTicket ticket.old.value × HoldsTicket other.old.value) ∷ (NOT_COMPARABLE, AreComparable ticket.old.value other.old.value) ∷ [])
+        (DONE ∷ NO_MEMORY ∷ []) result }
 {
     if !ticket.is_open() || !other.is_open() {
         return CLOSED;
     }
-    match (ticket.lend(), other.lend()) {
-        (Content::Ticket(ticket), Content::Ticket(other)) => match agree(alloc, ticket, other) {
-            Ok(same) => {
-                *out = same;
-                DONE
-            }
-            Err(why) => why,
-        },
-        _ => OTHER_KIND,
-    }
+    let Content::Ticket(ticket) = ticket.lend() else {
+        return OTHER_KIND;
+    };
+    let Content::Ticket(other) = other.lend() else {
+        return OTHER_KIND;
+    };
+    compare(alloc, ticket, other, out)
 }
 
 /// The list of the ticket, with an owner of each block.
@@ -112,9 +128,9 @@ pub extern "C" fn nw_ticket_walk(
     ensures same { IsUnchanged ticket.old ticket.new }
     ensures unchanged { (result ≡ pos 0 → ⊥) → IsUnchanged out.old out.new }
     ensures opened { result ≡ pos 0 → out.new.held ≡ true }
-    ensures occupied { result ≡ OPEN → out.old.held ≡ true }
-    ensures closed { result ≡ CLOSED → ticket.old.held ≡ true → ⊥ }
-    ensures other_kind { result ≡ OTHER_KIND → HoldsTicket ticket.old.value → ⊥ }
+    ensures code { IsFirstUnmet
+        ((CLOSED, ticket.old.held ≡ true) ∷ (OPEN, out.old.held ≡ false) ∷ (OTHER_KIND, HoldsTicket ticket.old.value) ∷ [])
+        (DONE ∷ NO_MEMORY ∷ []) result }
 {
     if !ticket.is_open() {
         return CLOSED;
@@ -136,8 +152,10 @@ pub extern "C" fn nw_ticket_walk(
 pub extern "C" fn nw_list_len(list: &mut ListHandle, out: &mut usize) -> i32
     ensures len { result ≡ pos 0 → HasBlocks list.old.value out.new }
     ensures same { IsUnchanged list.old list.new }
-    ensures closed { result ≡ CLOSED → list.old.held ≡ true → ⊥ }
-    ensures other_kind { result ≡ OTHER_KIND → HoldsList list.old.value → ⊥ }
+    ensures unchanged { (result ≡ pos 0 → ⊥) → out.new ≡ out.old }
+    ensures code { IsFirstUnmet
+        ((CLOSED, list.old.held ≡ true) ∷ (OTHER_KIND, HoldsList list.old.value) ∷ [])
+        (DONE ∷ []) result }
 {
     if !list.is_open() {
         return CLOSED;
@@ -163,10 +181,10 @@ pub extern "C" fn nw_list_block(
     ensures same { IsUnchanged list.old list.new }
     ensures unchanged { (result ≡ pos 0 → ⊥) → IsUnchanged out.old out.new }
     ensures opened { result ≡ pos 0 → out.new.held ≡ true }
-    ensures occupied { result ≡ OPEN → out.old.held ≡ true }
-    ensures closed { result ≡ CLOSED → list.old.held ≡ true → ⊥ }
-    ensures other_kind { result ≡ OTHER_KIND → HoldsList list.old.value → ⊥ }
     ensures absent { result ≡ ABSENT → HasNoBlockAt list.old.value index }
+    ensures code { IsFirstUnmet
+        ((CLOSED, list.old.held ≡ true) ∷ (OPEN, out.old.held ≡ false) ∷ (OTHER_KIND, HoldsList list.old.value) ∷ [])
+        (DONE ∷ ABSENT ∷ NO_MEMORY ∷ []) result }
 {
     if !list.is_open() {
         return CLOSED;

@@ -1,16 +1,6 @@
 -- The walks of a digest in two views are equal exactly when no two blocks collide at its ancestors.
-use Rattle.std.proofs.Common.{◌≡◌, ◌⊎◌, ◌+◌, ◌<◌, List, [], ◌∷◌, Some, map, refl, ap, sym, ◌∙◌, subst, arith, inl, inr}
-use Rattle.std.specs.Prelude.{Contains}
-use Rattle.std.specs.FinMap.{FinMap, get}
-use Rattle.std.proofs.lemmas.List.Elements.{All-contains}
-use Rattle.nw_digest.specs.declared.digest.Digest.{Digest}
-use Rattle.nw_codec.specs.declared.block.Ref.{Ref}
-use Rattle.nw_codec.specs.declared.block.Block.{Block}
-use Rattle.nw_digest.specs.Order.{digest_cmp}
-use Rattle.nw_digest.proofs.Elements.{contains_first, contains_later}
+use Rattle.nw_causal.proofs.Words.{◌≡◌, ◌⊎◌, ◌+◌, ◌<◌, List, [], ◌∷◌, Some, map, refl, ap, sym, ◌∙◌, subst, arith, inl, inr, Contains, FinMap, get, All-contains, Digest, Ref, Block, digest_cmp, contains_first, contains_later, Frozen, HasParent, IsClosed, HasBlock, IsParentIn, IsPathIn, IsAncestorIn, IsWalk, one_block}
 use Rattle.nw_model.specs.State.{block_slot}
-use Rattle.nw_model.specs.View.{Frozen, HasParent, IsClosed, HasBlock, IsParentIn, IsPathIn, IsAncestorIn, IsWalk}
-use Rattle.nw_model.proofs.Complete.{one_block}
 use Rattle.nw_model.proofs.Listed.{block_of, digest_of}
 use Rattle.nw_causal.specs.Agreement.{HaveOneWalk, CollideAt, IsMatched, MatchAt}
 

@@ -1,18 +1,10 @@
 -- The ancestors of a block are found round by round.
-use Rattle.std.proofs.Common.{◌≡◌, ◌⊎◌, ℕ, ◌+◌, ◌<◌, ◌≤◌, List, [], ◌∷◌, ◌++◌, Some, All, ap, sym, ◌∙◌, subst, arith, inl, inr}
-use Rattle.std.specs.Prelude.{Contains}
-use Rattle.std.specs.FinMap.{get}
+use Rattle.nw_causal.proofs.Words.{◌≡◌, ◌⊎◌, ℕ, ◌+◌, ◌<◌, ◌≤◌, List, [], ◌∷◌, ◌++◌, Some, All, ap, sym, ◌∙◌, subst, arith, inl, inr, Contains, get, All-nil, All-append, All-contains, Digest, Block, IsParentOfAny, Frozen, IsClosed, HasBlock, IsParentIn, IsPathIn, IsAncestorIn, one_block, contains_first, contains_cases, contains_none}
 use Rattle.std.specs.List.Sorted.{IsStrictlySortedBy}
 use Rattle.std.proofs.lemmas.List.{map-append}
-use Rattle.std.proofs.lemmas.List.Elements.{All-nil, All-append, All-contains, Contains-append_left, Contains-append_right, Contains-append_cases}
-use Rattle.nw_digest.specs.declared.digest.Digest.{Digest}
-use Rattle.nw_codec.specs.declared.block.Block.{Block}
-use Rattle.nw_model.specs.Search.{IsParentOfAny}
-use Rattle.nw_model.specs.View.{Frozen, IsClosed, HasBlock, IsParentIn, IsPathIn, IsAncestorIn}
-use Rattle.nw_model.proofs.Complete.{one_block}
+use Rattle.std.proofs.lemmas.List.Elements.{Contains-append_left, Contains-append_right, Contains-append_cases}
 use Rattle.nw_model.proofs.Finding.{there_is}
 use Rattle.nw_model.proofs.Ancestors.{path_on}
-use Rattle.nw_digest.proofs.Elements.{contains_first, contains_cases, contains_none}
 use Rattle.nw_causal.specs.declared.ancestor.Ancestor.{Ancestor}
 use Rattle.nw_causal.specs.Looked.{AreAt, AreFound, Gains, IsLevel, descending, digests}
 use Rattle.nw_causal.proofs.Agreeing.{named_by}

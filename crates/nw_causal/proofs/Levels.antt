@@ -1,28 +1,21 @@
 -- The ancestors of one round, in order, and insertions into them.
-use Rattle.std.proofs.Common.{◌≡◌, ◌⊎◌, ℕ, ◌+◌, ◌-◌, ◌<◌, ◌≤◌, Err, List, [], ◌∷◌, ◌++◌, Some, All, length, map, take, drop, reverse, get_or, refl, ap, sym, ◌∙◌, subst, arith, inl, inr}
-use Rattle.std.specs.Prelude.{Contains}
+use Rattle.nw_causal.proofs.Words.{◌≡◌, ◌⊎◌, ℕ, ◌+◌, ◌<◌, ◌≤◌, List, [], ◌∷◌, ◌++◌, Some, All, length, map, take, reverse, get_or, refl, ap, sym, ◌∙◌, subst, arith, inl, inr, Contains, nat_cmp, insert, get, length-map, All-nil, All-append, All-contains, Digest, contains_first, contains_later, contains_cases, contains_none, Ref, Block, Frozen, HasBlock, HasParent, IsClosed, IsWalk, one_block}
+use Rattle.std.proofs.Common.{◌-◌, Err, drop}
 use Rattle.std.specs.declared.cmp.Ordering.{Ordering}
 use Rattle.std.specs.declared.cmp.Ordering.TheVariants.{Less, Equal, Greater}
-use Rattle.std.specs.Ordering.{nat_cmp, ordering_index, ordering_then}
-use Rattle.std.specs.List.{AllByRecursion, HoldsAt, insert}
+use Rattle.std.specs.Ordering.{ordering_index, ordering_then}
+use Rattle.std.specs.List.{AllByRecursion, HoldsAt}
 use Rattle.std.specs.List.Sorted.{IsStrictlySortedBy, IsPermutation, IsNonDecreasingBy, IsPartitionPoint, IsBinarySearchResult}
-use Rattle.std.specs.FinMap.{get}
 use Rattle.std.proofs.lemmas.Bool.{cases_lt}
 use Rattle.std.proofs.lemmas.Bool.Decides.{nat_tests}
 use Rattle.std.proofs.lemmas.Cmp.{ranked}
-use Rattle.std.proofs.lemmas.List.{take-append-drop, length-map, length-reverse, length-drop, length-take-le, get_or-map, get_or-take, get_or-drop, get_or-reverse}
-use Rattle.std.proofs.lemmas.List.Elements.{All-nil, All-cons, All-head, All-tail, All-append, All-contains, All-contains_itself, All-from_recursion, All-weaker, Contains-get_or, recursion_from_All}
+use Rattle.std.proofs.lemmas.List.{take-append-drop, length-reverse, length-drop, length-take-le, get_or-map, get_or-take, get_or-drop, get_or-reverse}
+use Rattle.std.proofs.lemmas.List.Elements.{All-cons, All-head, All-tail, All-contains_itself, All-from_recursion, All-weaker, Contains-get_or, recursion_from_All}
 use Rattle.std.proofs.lemmas.List.Sorted.{All-permutation, Contains-permutation, IsPermutation-insert, IsPermutation-map, IsPermutation-reverse, IsPermutation-sym}
 use Rattle.std.proofs.lemmas.Map.Keys.{Less-from_sorted, sorted_from_all_adjacent}
-use Rattle.nw_digest.specs.declared.digest.Digest.{Digest}
-use Rattle.nw_digest.proofs.Elements.{contains_first, contains_later, contains_cases, contains_none}
-use Rattle.nw_codec.specs.declared.block.Ref.{Ref}
-use Rattle.nw_codec.specs.declared.block.Block.{Block}
 use Rattle.nw_model.specs.Paths.{block_cmp}
-use Rattle.nw_model.specs.View.{Frozen, HasBlock, HasParent, IsClosed, IsWalk}
 use Rattle.nw_model.proofs.Listed.{blocks_total}
 use Rattle.nw_causal.specs.declared.ancestor.Ancestor.{Ancestor}
-use Rattle.nw_model.proofs.Complete.{one_block}
 use Rattle.nw_model.proofs.Views.{last_there}
 use Rattle.nw_causal.specs.Looked.{AreFound, AreUnderTheirDigests, Gains, IsLevel, blocks, descending, digests}
 

@@ -1,3 +1,4 @@
+pub mod Words
 pub mod Agreeing
 pub mod Exploring
 pub mod Levels

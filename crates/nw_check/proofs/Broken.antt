@@ -1,17 +1,9 @@
 -- Broken rules, and the faults of blocks and certificates.
-use Rattle.std.proofs.Common.{◌≡◌, ℕ, Bool, true, false, ◌+◌, ◌<◌, Option, Some, None, List, ◌∷◌, ◌++◌, length, take, drop, get_or, refl, subst, arith}
-use Rattle.std.specs.Prelude.{Contains, MatchOption, is_some, not}
-use Rattle.std.specs.List.{All}
+use Rattle.nw_check.proofs.Words.{◌≡◌, ℕ, true, false, ◌+◌, ◌<◌, Option, Some, None, List, ◌∷◌, ◌++◌, length, take, drop, get_or, refl, subst, arith, Contains, All, Block, Signature, Seal, Certificate, signers, ReachesQuorum, Member, Meaning, IsMember, IsSealOf, IsValid}
+use Rattle.std.proofs.Common.{Bool}
+use Rattle.std.specs.Prelude.{MatchOption, is_some, not}
 use Rattle.std.proofs.lemmas.List.Elements.{All-contains, Contains-append_right}
-use Rattle.nw_codec.specs.declared.block.Block.{Block}
-use Rattle.nw_codec.specs.declared.certificate.Signature.{Signature}
-use Rattle.nw_codec.specs.declared.certificate.Seal.{Seal}
-use Rattle.nw_codec.specs.declared.certificate.Certificate.{Certificate}
-use Rattle.nw_codec.specs.Fits.{CertificateFits, signers}
-use Rattle.nw_committee.specs.Committee.{ReachesQuorum}
-use Rattle.nw_committee.specs.declared.member.Member.{Member}
-use Rattle.nw_sig.specs.Signed.{Meaning}
-use Rattle.nw_model.specs.Checks.{IsMember, IsSealOf, IsValid}
+use Rattle.nw_codec.specs.Fits.{CertificateFits}
 use Rattle.nw_check.specs.declared.fault.BlockFault.{BlockFault}
 use Rattle.nw_check.specs.declared.fault.BlockFault.TheVariants as block_fault
 use Rattle.nw_check.specs.declared.fault.CertFault.{CertFault}

@@ -1,18 +1,12 @@
 -- Gathered votes make a valid certificate.
-use Rattle.std.proofs.Common.{◌≡◌, ◌∙◌, ℕ, ◌<◌, ◌≤◌, List, ◌∷◌, ◌++◌, length, map, take, drop, get_or, refl, sym, ap, subst, arith}
-use Rattle.std.specs.Prelude.{insert}
-use Rattle.std.specs.List.{All}
-use Rattle.std.proofs.lemmas.List.{length-map, get_or-map, map-append, take-map, drop-map, take-append-drop}
+use Rattle.nw_check.proofs.Words.{◌≡◌, ◌∙◌, ℕ, ◌<◌, ◌≤◌, List, ◌∷◌, ◌++◌, length, map, take, drop, get_or, refl, sym, ap, subst, arith, insert, All, take-append-drop, signers, Seal, Vote, ReachesQuorum, Meaning, IsMember, IsSealOf, IsValid}
+use Rattle.std.proofs.lemmas.List.{length-map, get_or-map, map-append, take-map, drop-map}
 use Rattle.std.proofs.lemmas.List.Elements.{All-map, All-append, All-cons, All-take, All-drop, All-weaker}
 use Rattle.std.proofs.lemmas.Option.{slice_get_within}
-use Rattle.nw_codec.specs.Fits.{signers}
 use Rattle.nw_codec.specs.Grammar.{seal}
 use Rattle.nw_codec.specs.Subject.{certificate_subject, vote_subject}
-use Rattle.nw_codec.specs.declared.certificate.Seal.{Seal}
-use Rattle.nw_codec.specs.declared.vote.Vote.{Vote}
-use Rattle.nw_committee.specs.Committee.{ReachesQuorum}
-use Rattle.nw_sig.specs.Signed.{Meaning, text_of_vote}
-use Rattle.nw_model.specs.Checks.{IsMember, IsSignedBy, IsSealOf, IsValid}
+use Rattle.nw_sig.specs.Signed.{text_of_vote}
+use Rattle.nw_model.specs.Checks.{IsSignedBy}
 use Rattle.nw_check.specs.Gathering.{Gathering, IsGathering, IsPlace, CanCount, CountsVote, certificate_of}
 use Rattle.nw_check.proofs.Places.{few_below, place-rises}
 

@@ -1,15 +1,6 @@
 -- No two faults apply to one value.
-use Rattle.std.proofs.Common.{◌≡◌, ◌∙◌, ℕ, ◌<◌, List, [], ◌∷◌, ◌++◌, refl, sym, ap, subst, arith}
-use Rattle.std.specs.List.{All}
+use Rattle.nw_check.proofs.Words.{◌≡◌, ◌∙◌, ℕ, ◌<◌, List, [], ◌∷◌, ◌++◌, refl, sym, ap, subst, arith, All, Block, Signature, Seal, Certificate, Vote, Member, Meaning, IsSealOf}
 use Rattle.std.proofs.lemmas.List.Elements.{All-head, All-tail}
-use Rattle.nw_codec.specs.declared.block.Block.{Block}
-use Rattle.nw_codec.specs.declared.certificate.Signature.{Signature}
-use Rattle.nw_codec.specs.declared.certificate.Seal.{Seal}
-use Rattle.nw_codec.specs.declared.certificate.Certificate.{Certificate}
-use Rattle.nw_codec.specs.declared.vote.Vote.{Vote}
-use Rattle.nw_committee.specs.declared.member.Member.{Member}
-use Rattle.nw_sig.specs.Signed.{Meaning}
-use Rattle.nw_model.specs.Checks.{IsSealOf}
 use Rattle.nw_check.specs.declared.fault.BlockFault.{BlockFault}
 use Rattle.nw_check.specs.declared.fault.BlockFault.TheVariants as block_fault
 use Rattle.nw_check.specs.declared.fault.CertFault.{CertFault}

@@ -1,10 +1,10 @@
 -- The place of a number among ascending numbers.
-use Rattle.std.proofs.Common.{◌≡◌, ◌∙◌, ℕ, zero, suc, ◌+◌, ◌-◌, ◌<◌, ◌≤◌, List, [], ◌∷◌, ◌++◌, Option, Some, None, length, take, drop, get_or, refl, sym, arith, inl, inr}
-use Rattle.std.specs.Prelude.{Contains, insert}
-use Rattle.std.specs.List.{All, AllByRecursion}
+use Rattle.nw_check.proofs.Words.{◌≡◌, ◌∙◌, ℕ, ◌+◌, ◌<◌, ◌≤◌, List, [], ◌∷◌, ◌++◌, Option, Some, None, length, take, drop, get_or, refl, sym, arith, Contains, insert, All, take_all}
+use Rattle.std.proofs.Common.{zero, suc, ◌-◌, inl, inr}
+use Rattle.std.specs.List.{AllByRecursion}
 use Rattle.std.specs.List.Sorted.{IsStrictlyIncreasing}
 use Rattle.std.proofs.lemmas.Bool.{cases_lt}
-use Rattle.std.proofs.lemmas.List.{take_all, drop_all, get_or-take, get_or-drop, get_or_default, length-take, length-drop}
+use Rattle.std.proofs.lemmas.List.{drop_all, get_or-take, get_or-drop, get_or_default, length-take, length-drop}
 use Rattle.std.proofs.lemmas.List.Elements.{recursion_from_All, All-same, All-nil}
 use Rattle.std.proofs.lemmas.List.Kept.{AllPairs-from_increasing}
 use Rattle.nw_decode.proofs.Ascending.{IsAfter, Ascends, ascends, increasing}

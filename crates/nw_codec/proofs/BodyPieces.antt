@@ -1,7 +1,5 @@
 -- The pieces of a body, one after another.
-use Rattle.std.proofs.Common.{◌≡◌, ℕ, List, [], ◌∷◌, ◌++◌, length, append_assoc}
-use Rattle.std.specs.List.{flat_map}
-use Rattle.std.specs.Int.{to_be_bytes, w16}
+use Rattle.nw_codec.proofs.Words.{◌≡◌, ℕ, List, [], ◌∷◌, ◌++◌, length, append_assoc, flat_map, to_be_bytes, w16}
 use Rattle.nw_codec.specs.declared.block.Ref.{Ref}
 use Rattle.nw_codec.specs.declared.block.Block.{Block}
 use Rattle.nw_codec.specs.Grammar.{body, round_bytes, parent_bytes}

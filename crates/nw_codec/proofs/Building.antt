@@ -1,8 +1,6 @@
 -- Items that are built in order from their encoding.
-use Rattle.std.proofs.Common.{◌≡◌, ℕ, List, [], ◌∷◌, ◌++◌, All, sym, ap, ◌∙◌, append_assoc}
-use Rattle.std.specs.List.{flat_map}
-use Rattle.std.proofs.lemmas.List.{append-nil}
-use Rattle.std.proofs.lemmas.List.Elements.{All-push}
+use Rattle.nw_codec.proofs.Words.{◌≡◌, ℕ, List, [], ◌∷◌, ◌++◌, sym, ap, ◌∙◌, append_assoc, flat_map, append-nil, All-push}
+use Rattle.std.proofs.Common.{All}
 
 -- these items are built, and the rest of the text is left
 pub record AreBuilt {X : Type 0} (piece : X → List ℕ) (P : X → Type 0) (text : List ℕ) (made : List X) (rest : List ℕ) : Type 0 where

@@ -1,15 +1,5 @@
 -- The parents that blocks lack after one more digest stands.
-use Rattle.std.proofs.Common.{◌≡◌, ◌↔◌, ◌⊎◌, List, [], ◌∷◌, refl, sym, subst, inl, inr}
-use Rattle.std.specs.Prelude.{Contains}
-use Rattle.std.proofs.lemmas.List.Elements.{All-weaker, All-contains}
-use Rattle.nw_digest.specs.declared.digest.Digest.{Digest}
-use Rattle.nw_codec.specs.declared.block.Block.{Block}
-use Rattle.nw_model.specs.declared.wanted.Wanted.{Wanted}
-use Rattle.nw_waiting.specs.Pairs.{Pairs, Lacks, without_wanted}
-use Rattle.nw_model.specs.State.{State}
-use Rattle.nw_model.specs.Paths.{IsStanding}
-use Rattle.nw_digest.proofs.Elements.{contains_cases, contains_first, contains_none}
-use Rattle.nw_state.specs.Standing.{Stands, IsMet, name_of}
+use Rattle.nw_dag.proofs.Words.{◌≡◌, ◌↔◌, ◌⊎◌, List, [], ◌∷◌, refl, sym, subst, inl, inr, Contains, All-weaker, All-contains, Digest, Block, Wanted, Pairs, Lacks, without_wanted, State, IsStanding, contains_cases, contains_first, contains_none, Stands, IsMet, name_of}
 use Rattle.nw_dag.specs.Lacking.{ReferencesParent, IsReady, IsPromoted, AreLacking, AreUnmet, AreUnmetWithout}
 use Rattle.nw_dag.specs.AtRest.{AreListed}
 use Rattle.nw_dag.proofs.Pairs.{without_wanted_lacks}

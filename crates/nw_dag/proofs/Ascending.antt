@@ -1,20 +1,8 @@
 -- Digests and entries that ascend.
-use Rattle.std.proofs.Common.{◌≡◌, ◌⊎◌, ℕ, ◌<◌, List, [], ◌∷◌, ◌++◌, length, take, get_or, refl, ap, sym, ◌∙◌, subst, arith}
-use Rattle.std.specs.Prelude.{Contains}
-use Rattle.std.proofs.lemmas.List.{get_or_default, get_or-take, length-take, map-append}
-use Rattle.std.proofs.lemmas.List.Elements.{Contains-push_cases}
-use Rattle.std.specs.declared.cmp.Ordering.TheVariants.{Less, Greater}
-use Rattle.std.specs.List.Sorted.{IsStrictlySortedBy}
+use Rattle.nw_dag.proofs.Words.{◌≡◌, ◌⊎◌, ℕ, ◌<◌, List, [], ◌∷◌, ◌++◌, length, take, get_or, refl, ap, sym, ◌∙◌, subst, arith, Contains, get_or_default, get_or-take, length-take, Contains-push_cases, Less, Greater, IsStrictlySortedBy, insert_entry, keys_of, Block, Digest, digest_cmp, contains_first, contains_later, digests_total, sorted_insert}
+use Rattle.std.proofs.lemmas.List.{map-append}
 use Rattle.std.specs.Ordering.{match_ordering, ordering_reverse}
-use Rattle.std.specs.BTreeMap.{insert_entry}
-use Rattle.std.specs.Map.{keys_of}
 use Rattle.std.proofs.lemmas.Map.Keys.{Less-from_sorted}
-use Rattle.nw_codec.specs.declared.block.Block.{Block}
-use Rattle.nw_digest.specs.declared.digest.Digest.{Digest}
-use Rattle.nw_digest.specs.Order.{digest_cmp}
-use Rattle.nw_digest.proofs.Elements.{contains_first, contains_later}
-use Rattle.nw_digest.proofs.Maps.{digests_total}
-use Rattle.nw_trie.proofs.Inserts.{sorted_insert}
 
 -- the digests before place i come before the one there
 pub before_place : (xs : List Digest) (i : ℕ) (none k : Digest) → IsStrictlySortedBy digest_cmp xs → i < length xs → Contains (take i xs) k → digest_cmp k (get_or xs i none) ≡ Less

@@ -1,17 +1,5 @@
 -- The parents that blocks lack after one more promotion.
-use Rattle.std.proofs.Common.{◌≡◌, ◌⊎◌, List, ◌∷◌, ◌++◌, Some, refl, ap, sym, ◌∙◌, subst, inl, inr}
-use Rattle.std.specs.Prelude.{Contains}
-use Rattle.std.specs.FinMap.{get}
-use Rattle.std.proofs.lemmas.List.Elements.{Contains-append_cases, Contains-append_left, Contains-append_right}
-use Rattle.nw_digest.specs.declared.digest.Digest.{Digest}
-use Rattle.nw_codec.specs.declared.block.Block.{Block}
-use Rattle.nw_model.specs.declared.wanted.Wanted.{Wanted}
-use Rattle.nw_waiting.specs.Pairs.{Pairs, Lacks}
-use Rattle.nw_model.specs.State.{State}
-use Rattle.nw_model.specs.Paths.{IsStanding}
-use Rattle.nw_model.proofs.Complete.{one_block}
-use Rattle.nw_digest.proofs.Elements.{contains_cases, contains_later}
-use Rattle.nw_state.specs.Standing.{IsMet, name_of}
+use Rattle.nw_dag.proofs.Words.{◌≡◌, ◌⊎◌, List, ◌∷◌, ◌++◌, Some, refl, ap, sym, ◌∙◌, subst, inl, inr, Contains, get, Contains-append_cases, Contains-append_left, Contains-append_right, Digest, Block, Wanted, Pairs, Lacks, State, IsStanding, one_block, contains_cases, contains_later, IsMet, name_of}
 use Rattle.nw_dag.specs.Lacking.{ReferencesParent, IsReady, IsPromoted, AreLacking}
 use Rattle.nw_dag.specs.Changes.{Promotes}
 use Rattle.nw_dag.proofs.Pairs.{without_wanted_lacks, lacks_or_not, wanted_or_not}

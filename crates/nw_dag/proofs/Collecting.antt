@@ -1,34 +1,19 @@
 -- The tables of a store while it collects.
-use Rattle.std.proofs.Common.{◌≡◌, ℕ, ◌+◌, ◌-◌, ◌<◌, ◌≤◌, Bool, true, false, cond, List, [], ◌++◌, filter, length, drop, Option, Some, None, is_some, not, refl, ap, sym, ◌∙◌, subst, arith, inl, inr, length-append}
-use Rattle.std.specs.Prelude.{Contains, nat_le}
-use Rattle.std.specs.Ordering.{eq_by_cmp}
-use Rattle.std.specs.Cmp.{eq_by_cmp_equiv}
-use Rattle.std.specs.FinMap.{FinMap, get, len, entries, keys, len-entries, contains_key-keys}
-use Rattle.std.proofs.lemmas.Bool.{cases_lt, true≢false, not-true}
-use Rattle.std.proofs.lemmas.List.{drop_at, length-map}
-use Rattle.std.proofs.lemmas.List.Elements.{All-contains, All-filter, filter_passes, Contains-append_cases, Contains-append_left, Contains-append_right}
+use Rattle.nw_dag.proofs.Words.{◌≡◌, ℕ, ◌+◌, ◌-◌, ◌<◌, ◌≤◌, Bool, true, false, cond, List, [], ◌++◌, length, drop, Option, Some, None, is_some, not, refl, ap, sym, ◌∙◌, subst, arith, inl, inr, length-append, Contains, eq_by_cmp, eq_by_cmp_equiv, FinMap, get, len, entries, keys, len-entries, contains_key-keys, cases_lt, true≢false, drop_at, length-map, All-contains, Contains-append_cases, Contains-append_left, Contains-append_right, list_any-from_Contains, Digest, Block, Pairs, digest_cmp, State, raised, IsSound, one_block, digests_total, contains_none, which, was_there, is_kept, AreDigestsUpTo}
+use Rattle.std.proofs.Common.{filter}
+use Rattle.std.specs.Prelude.{nat_le}
+use Rattle.std.proofs.lemmas.Bool.{not-true}
+use Rattle.std.proofs.lemmas.List.Elements.{All-filter, filter_passes}
 use Rattle.std.proofs.lemmas.List.Filters.{length-filter_both}
-use Rattle.std.proofs.lemmas.Map.Views.{list_any-from_Contains}
-use Rattle.nw_digest.specs.declared.digest.Digest.{Digest}
-use Rattle.nw_codec.specs.declared.block.Block.{Block}
-use Rattle.nw_waiting.specs.Pairs.{Pairs}
 use Rattle.nw_waiting.proofs.Members.{IsDistinct-filter}
-use Rattle.nw_digest.specs.Order.{digest_cmp}
-use Rattle.nw_model.specs.State.{State}
-use Rattle.nw_model.specs.Step.{raised, collect_reply}
+use Rattle.nw_model.specs.Step.{collect_reply}
 use Rattle.nw_model.specs.declared.reply.CollectReply.TheVariants as collect
-use Rattle.nw_model.specs.Sound.{IsSound}
-use Rattle.nw_model.proofs.Complete.{one_block}
 use Rattle.nw_model.proofs.Existing.{held_among}
-use Rattle.nw_digest.proofs.Maps.{digests_total}
-use Rattle.nw_digest.proofs.Elements.{contains_none, contains_filter}
-use Rattle.nw_digest.proofs.Found.{which}
-use Rattle.nw_model.proofs.Raised.{was_there, is_kept}
+use Rattle.nw_digest.proofs.Elements.{contains_filter}
 use Rattle.nw_dag.specs.Lacking.{IsReady}
 use Rattle.nw_dag.specs.Changes.{AppendsThose}
 use Rattle.nw_dag.specs.Frozen.{Grows}
 use Rattle.nw_dag.specs.AtRest.{AreListed, HasPendingCount, IsComingToRest, IsCascading, IsAtRest}
-use Rattle.nw_state.specs.Collection.{AreDigestsUpTo}
 use Rattle.nw_dag.specs.Collection.{AreReleased, StandsButLacks, IsCompleteBelow, HasCompleteBelow, IsCollecting}
 use Rattle.nw_dag.proofs.Listed.{listed_fits, most_left}
 use Rattle.nw_dag.proofs.Lists.{begins_more}

@@ -1,26 +1,10 @@
 -- If nothing is due, the ready digests are exactly the complete ones.
-use Rattle.std.proofs.Common.{◌≡◌, ◌↔◌, ℕ, ◌+◌, ◌-◌, ◌<◌, zero, suc, [], Some, get_or, refl, sym, ◌∙◌, subst, arith, inl, inr}
-use Rattle.std.specs.Prelude.{Contains, IsTrue}
-use Rattle.std.specs.FinMap.{get}
-use Rattle.std.proofs.lemmas.Bool.{cases_lt}
-use Rattle.std.proofs.lemmas.List.Elements.{All-contains, Contains-get_or}
-use Rattle.nw_digest.specs.declared.digest.Digest.{Digest}
-use Rattle.nw_codec.specs.declared.block.Ref.{Ref}
-use Rattle.nw_codec.specs.declared.block.Block.{Block}
-use Rattle.nw_model.specs.declared.wanted.Wanted.{Wanted}
-use Rattle.nw_waiting.specs.Pairs.{Pairs}
-use Rattle.nw_model.specs.State.{State}
-use Rattle.nw_model.specs.Paths.{IsStanding, IsSatisfied, IsComplete}
-use Rattle.nw_model.specs.Sound.{IsSound}
-use Rattle.nw_model.proofs.Complete.{one_block, complete_from_parents, parents_complete}
-use Rattle.nw_model.specs.Step.{certified_digest, is_held}
+use Rattle.nw_dag.proofs.Words.{◌≡◌, ◌↔◌, ℕ, ◌+◌, ◌-◌, ◌<◌, zero, suc, [], Some, get_or, refl, sym, ◌∙◌, subst, arith, inl, inr, Contains, IsTrue, get, cases_lt, All-contains, Contains-get_or, Digest, Ref, Block, Wanted, Pairs, State, IsStanding, IsComplete, IsSound, one_block, parents_complete, is_held, Slot, which, is_there, contains_none, IsMet, IsNamedBy}
+use Rattle.nw_model.specs.Paths.{IsSatisfied}
+use Rattle.nw_model.proofs.Complete.{complete_from_parents}
+use Rattle.nw_model.specs.Step.{certified_digest}
 use Rattle.nw_model.proofs.Kept.{certified_is}
-use Rattle.nw_digest.specs.Order.{Slot}
-use Rattle.nw_digest.proofs.Found.{which, is_there}
-use Rattle.nw_digest.proofs.Elements.{contains_none}
-use Rattle.nw_state.specs.Standing.{IsMet}
 use Rattle.nw_dag.specs.Lacking.{IsReady, AreLacking, LacksNothing}
-use Rattle.nw_model.specs.Missing.{IsNamedBy}
 
 -- the parent that a reference names
 abbrev pub named_by : ℕ → Ref → Wanted

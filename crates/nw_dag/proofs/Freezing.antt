@@ -1,28 +1,11 @@
 -- Frozen blocks, and the states that views of them show.
-use Rattle.std.proofs.Common.{◌≡◌, ◌⊎◌, ℕ, List, [], ◌∷◌, ◌++◌, Option, Some, None, get_or, length, refl, ap, sym, ◌∙◌, subst, arith, inl, inr}
-use Rattle.std.specs.Prelude.{Contains}
+use Rattle.nw_dag.proofs.Words.{◌≡◌, ◌⊎◌, ℕ, List, [], ◌∷◌, ◌++◌, Option, Some, None, get_or, length, refl, ap, sym, ◌∙◌, subst, arith, inl, inr, Contains, FinMap, get, get-empty, Contains-append_cases, Contains-append_left, Contains-append_right, none-some, Digest, Block, Pairs, digest_cmp, State, opening, IsStanding, IsSound, Frozen, Shows, one_block, parents_complete, after_insert, at_insert, digests_apart, digests_total, is_kept, was_there, contains_cases, contains_first, contains_none, which, Stands}
 use Rattle.std.specs.Option.{option_or}
-use Rattle.std.specs.FinMap.{FinMap, get, empty, insert, get-empty, same_map}
-use Rattle.std.proofs.lemmas.List.Elements.{Contains-append_cases, Contains-append_left, Contains-append_right}
-use Rattle.std.proofs.lemmas.Option.{none-some}
+use Rattle.std.specs.FinMap.{empty, insert, same_map}
 use Rattle.nw_plain.proofs.Freezing.{stays}
-use Rattle.nw_digest.specs.declared.digest.Digest.{Digest}
-use Rattle.nw_codec.specs.declared.block.Block.{Block}
-use Rattle.nw_waiting.specs.Pairs.{Pairs}
-use Rattle.nw_digest.specs.Order.{digest_cmp}
-use Rattle.nw_model.specs.State.{State, opening}
-use Rattle.nw_model.specs.Paths.{IsStanding}
 use Rattle.nw_model.specs.Step.{from_round}
-use Rattle.nw_model.specs.Sound.{IsSound}
-use Rattle.nw_model.specs.View.{Frozen, IsClosed, Shows}
-use Rattle.nw_model.proofs.Complete.{one_block, parents_complete}
-use Rattle.nw_model.proofs.Kept.{after_insert, at_insert}
-use Rattle.nw_digest.proofs.Maps.{digests_apart, digests_total}
-use Rattle.nw_model.proofs.Raised.{is_kept, was_there}
-use Rattle.nw_digest.proofs.Elements.{contains_cases, contains_first, contains_none}
-use Rattle.nw_digest.proofs.Found.{which}
+use Rattle.nw_model.specs.View.{IsClosed}
 use Rattle.nw_generation.specs.Seen.{IsOverlay}
-use Rattle.nw_state.specs.Standing.{Stands}
 use Rattle.nw_dag.specs.Lacking.{IsReady}
 use Rattle.nw_dag.specs.AtRest.{IsAtRest}
 use Rattle.nw_dag.specs.Frozen.{IsHeldReady, AreHeldUnder, AreFrozen, AreFrozenExcept, AreAllOrFrom, Grows}

@@ -1,3 +1,4 @@
+pub mod Words
 pub mod Ascending
 pub mod Opening
 pub mod Pairs
@@ -19,3 +20,4 @@ pub mod Collecting
 pub mod Refrozen
 pub mod Retained
 pub mod Send
+mod Looks

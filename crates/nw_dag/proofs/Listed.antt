@@ -1,18 +1,7 @@
 -- Lists of ready digests, each listed once.
-use Rattle.std.proofs.Common.{◌≡◌, ℕ, zero, suc, ◌+◌, ◌<◌, ◌≤◌, List, [], ◌∷◌, ◌++◌, length, get_or, is_some, refl, ap, sym, ◌∙◌, subst, arith, inl, inr, append_assoc, append-nil, length-append}
-use Rattle.std.specs.Prelude.{Contains, All}
-use Rattle.std.specs.Cmp.{eq_by_cmp_equiv}
-use Rattle.std.specs.FinMap.{entries, keys, len, len-entries, contains_key-keys}
-use Rattle.std.proofs.lemmas.List.{length-map, length_push}
-use Rattle.std.proofs.lemmas.List.Elements.{All-append, All-contains, Contains-append_cases, Contains-append_left, Contains-append_right, Contains-get_or}
-use Rattle.std.proofs.lemmas.Map.Made.{length-le_from_is_member}
-use Rattle.std.proofs.lemmas.Map.Views.{Contains-from_any}
-use Rattle.nw_digest.specs.declared.digest.Digest.{Digest}
-use Rattle.nw_codec.specs.declared.block.Block.{Block}
-use Rattle.nw_waiting.specs.Pairs.{Pairs}
-use Rattle.nw_model.specs.State.{State}
-use Rattle.nw_digest.proofs.Maps.{digests_total, same_digest}
-use Rattle.nw_digest.proofs.Elements.{contains_cases, contains_first, contains_none}
+use Rattle.nw_dag.proofs.Words.{◌≡◌, ℕ, zero, suc, ◌+◌, ◌<◌, ◌≤◌, List, [], ◌∷◌, ◌++◌, length, get_or, is_some, refl, ap, sym, ◌∙◌, subst, arith, inl, inr, append_assoc, append-nil, length-append, Contains, eq_by_cmp_equiv, entries, keys, len, len-entries, contains_key-keys, length-map, length_push, All-contains, Contains-append_cases, Contains-append_left, Contains-append_right, Contains-get_or, length-le_from_is_member, Contains-from_any, Digest, Block, Pairs, State, digests_total, same_digest, contains_cases, contains_first, contains_none}
+use Rattle.std.specs.Prelude.{All}
+use Rattle.std.proofs.lemmas.List.Elements.{All-append}
 use Rattle.nw_dag.specs.Lacking.{IsReady}
 use Rattle.nw_dag.specs.Changes.{AppendsThose}
 use Rattle.nw_dag.specs.AtRest.{AreListed, HasPendingCount}

@@ -1,9 +1,6 @@
 -- Lists that begin with others.
-use Rattle.std.proofs.Common.{ℕ, List, [], ◌++◌, take, drop, sym, ap, ◌∙◌, subst, append_assoc, append-nil}
-use Rattle.std.specs.Prelude.{Contains}
+use Rattle.nw_dag.proofs.Words.{ℕ, List, [], ◌++◌, take, drop, sym, ap, ◌∙◌, subst, append_assoc, append-nil, Contains, Contains-append_left, Digest}
 use Rattle.std.proofs.lemmas.List.{take-append-drop}
-use Rattle.std.proofs.lemmas.List.Elements.{Contains-append_left}
-use Rattle.nw_digest.specs.declared.digest.Digest.{Digest}
 use Rattle.nw_dag.specs.Frozen.{Begins}
 
 pub begins_same : (xs : List Digest) → Begins xs xs

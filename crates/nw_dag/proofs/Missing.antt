@@ -1,12 +1,8 @@
 -- The wanted parents are the unmet ones, of all blocks and of one.
-use Rattle.std.proofs.Common.{◌≡◌, ℕ, List, Some, subst}
-use Rattle.std.specs.FinMap.{get}
-use Rattle.nw_digest.specs.declared.digest.Digest.{Digest}
-use Rattle.nw_codec.specs.declared.block.Block.{Block}
-use Rattle.nw_waiting.specs.Pairs.{Pairs, AreFirst, AreWanted, Lacks, WantedCount}
-use Rattle.nw_model.specs.declared.wanted.Wanted.{Wanted}
-use Rattle.nw_model.specs.State.{State}
-use Rattle.nw_model.specs.Missing.{ListsExactly, AreFirstWanted, HasCount, IsWanted, Wants, wanted_cmp}
+use Rattle.nw_dag.proofs.Words.{◌≡◌, ℕ, List, Some, ap, sym, subst, get, Digest, Block, Pairs, Lacks, Wanted, State, HasCount, IsWanted, wanted_cmp}
+use Rattle.nw_waiting.specs.Pairs.{AreFirst, AreWanted, WantedCount}
+use Rattle.nw_model.specs.Missing.{ListsExactly, AreFirstWanted, Wants}
+use Rattle.nw_model.specs.Look.{AreMissed}
 use Rattle.nw_dag.specs.Lacking.{AreUnmet}
 use Rattle.nw_dag.proofs.Complete.{met_from_satisfied, satisfied_from_met}
 
@@ -43,3 +39,7 @@ wanted_by s unmet d b missing standing held are = record {
   );
   ascending = are.ascending;
 }
+
+-- and their number is the number of those that it wants
+pub count_missed : (s : State) (unmet : Pairs) (d : Digest) (b : Block) (n : ℕ) → AreUnmet s unmet → get s.blocks d ≡ Some b → HasCount wanted_cmp (Lacks unmet d) n → AreMissed s (Some d) n
+count_missed s unmet d b n standing held (missing, are, counts) = (Some missing, (b, held, wanted_by s unmet d b missing standing held are), sym counts)

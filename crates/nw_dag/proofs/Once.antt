@@ -1,22 +1,15 @@
 -- Lists without repeated digests.
-use Rattle.std.proofs.Common.{◌≡◌, ◌⊎◌, ◌≤◌, Bool, true, false, List, [], ◌∷◌, ◌++◌, map, length, refl, sym, ◌∙◌, subst, inl, inr, append_assoc, append-nil}
-use Rattle.std.specs.Prelude.{◌&&◌, T, Contains}
+use Rattle.nw_dag.proofs.Words.{◌≡◌, ◌⊎◌, ◌≤◌, Bool, true, false, List, [], ◌∷◌, ◌++◌, length, refl, sym, ◌∙◌, subst, inl, inr, append_assoc, append-nil, ◌&&◌, Contains, Less, Greater, eq_by_cmp, FinMap, entries, keys, eq_by_cmp_equiv, All-contains, All-from_recursion, Contains-append_cases, IsDistinct-head, IsDistinct-tail, length-le_from_is_member, Contains-from_any, list_any-from_Contains, true≢false, Digest, digest_cmp, contains_cases, contains_first, contains_later, contains_none, digests_total, same_digest}
+use Rattle.std.proofs.Common.{map}
+use Rattle.std.specs.Prelude.{T}
 use Rattle.std.specs.List.{IsDistinct, AllByRecursion, list_any}
 use Rattle.std.specs.declared.cmp.Ordering.{Ordering}
-use Rattle.std.specs.declared.cmp.Ordering.TheVariants.{Less, Equal, Greater}
-use Rattle.std.specs.Ordering.{eq_by_cmp, is_eq, is_lt}
-use Rattle.std.specs.FinMap.{FinMap, entries, entries_sorted, is_sorted, keys}
+use Rattle.std.specs.declared.cmp.Ordering.TheVariants.{Equal}
+use Rattle.std.specs.Ordering.{is_eq, is_lt}
+use Rattle.std.specs.FinMap.{entries_sorted, is_sorted}
 use Rattle.std.specs.FinMap.Entries.{below_all}
-use Rattle.std.specs.Cmp.{eq_by_cmp_equiv}
-use Rattle.std.proofs.lemmas.List.Elements.{All-contains, All-from_recursion, Contains-append_cases}
-use Rattle.std.proofs.lemmas.Map.Keys.{IsDistinct-head, IsDistinct-tail, IsDistinct-cons, IsDistinct-push}
-use Rattle.std.proofs.lemmas.Map.Made.{length-le_from_is_member}
-use Rattle.std.proofs.lemmas.Map.Views.{Contains-from_any, list_any-from_Contains}
-use Rattle.std.proofs.lemmas.Bool.{true≢false, false_from_ne_true}
-use Rattle.nw_digest.specs.declared.digest.Digest.{Digest}
-use Rattle.nw_digest.specs.Order.{digest_cmp}
-use Rattle.nw_digest.proofs.Elements.{contains_cases, contains_first, contains_later, contains_none}
-use Rattle.nw_digest.proofs.Maps.{digests_total, same_digest}
+use Rattle.std.proofs.lemmas.Map.Keys.{IsDistinct-cons, IsDistinct-push}
+use Rattle.std.proofs.lemmas.Bool.{false_from_ne_true}
 
 abbrev same : Digest → Digest → Bool
 same = eq_by_cmp digest_cmp

@@ -1,16 +1,8 @@
 -- The opening state.
-use Rattle.std.proofs.Common.{[], sym, ◌∙◌, arith}
-use Rattle.std.specs.FinMap.{get-empty, len-empty}
-use Rattle.std.specs.FinSet.{empty, contains-empty}
+use Rattle.nw_dag.proofs.Words.{[], sym, ◌∙◌, arith, get-empty, empty, none-some, false≢true, Digest, Block, Lacks, pair_cmp, Wanted, digest_cmp, opening}
+use Rattle.std.specs.FinMap.{len-empty}
+use Rattle.std.specs.FinSet.{contains-empty}
 use Rattle.std.proofs.lemmas.List.Elements.{All-nil}
-use Rattle.std.proofs.lemmas.Option.{none-some}
-use Rattle.std.proofs.lemmas.Bool.{false≢true}
-use Rattle.nw_digest.specs.declared.digest.Digest.{Digest}
-use Rattle.nw_codec.specs.declared.block.Block.{Block}
-use Rattle.nw_waiting.specs.Pairs.{Lacks, pair_cmp}
-use Rattle.nw_model.specs.declared.wanted.Wanted.{Wanted}
-use Rattle.nw_digest.specs.Order.{digest_cmp}
-use Rattle.nw_model.specs.State.{opening}
 use Rattle.nw_dag.specs.Lacking.{ReferencesParent}
 use Rattle.nw_dag.specs.AtRest.{IsAtRest}
 use Rattle.nw_dag.proofs.Once.{once_none}

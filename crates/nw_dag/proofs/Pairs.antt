@@ -1,18 +1,11 @@
 -- The pairs of a set after a change.
-use Rattle.std.proofs.Common.{◌≡◌, ◌↔◌, ◌⊎◌, Bool, true, false, not, ◌&&◌, ◌||◌, refl, ap, sym, ◌∙◌, subst, inl, inr}
+use Rattle.nw_dag.proofs.Words.{◌≡◌, ◌↔◌, ◌⊎◌, Bool, true, false, not, refl, ap, sym, ◌∙◌, subst, inl, inr, true≢false, eq_by_cmp, eq_by_cmp_equiv, contains, insert, Digest, Wanted, digest_cmp, Pairs, Lacks, pair_cmp, without_holder, without_wanted, wanted_cmp, digests_total, same_digest, pairs_apart, pairs_total}
+use Rattle.std.proofs.Common.{◌&&◌, ◌||◌}
 use Rattle.std.proofs.lemmas.Map.Views.{tells_apart}
-use Rattle.std.proofs.lemmas.Bool.{and_from, and_parts, or_cases, or_right, true≢false}
-use Rattle.std.specs.Ordering.{eq_by_cmp}
-use Rattle.std.specs.Cmp.{eq_by_cmp_equiv}
-use Rattle.std.specs.FinSet.{contains, contains-insert, contains-retain, insert}
-use Rattle.nw_digest.specs.declared.digest.Digest.{Digest}
-use Rattle.nw_model.specs.declared.wanted.Wanted.{Wanted}
-use Rattle.nw_digest.specs.Order.{digest_cmp}
-use Rattle.nw_waiting.specs.Pairs.{Pair, Pairs, Lacks, pair_cmp, without_holder, without_wanted}
-use Rattle.nw_model.specs.Missing.{wanted_cmp}
-use Rattle.nw_digest.proofs.Maps.{digests_total, same_digest}
+use Rattle.std.proofs.lemmas.Bool.{and_from, and_parts, or_cases, or_right}
+use Rattle.std.specs.FinSet.{contains-insert, contains-retain}
+use Rattle.nw_waiting.specs.Pairs.{Pair}
 use Rattle.nw_model.proofs.WantedOrder.{one_wanted, wanted_total}
-use Rattle.nw_waiting.proofs.Orders.{pairs_apart, pairs_total}
 
 not_true : (a : Bool) → (a ≡ true → ⊥) → not a ≡ true
 not_true true never = absurd (never refl)

@@ -1,25 +1,6 @@
 -- The parents that blocks lack after a collection.
-use Rattle.std.proofs.Common.{◌≡◌, ◌↔◌, ◌⊎◌, ℕ, ◌<◌, ◌≤◌, List, [], Some, IsSome, ap, arith, inl, inr}
-use Rattle.std.specs.Prelude.{Contains}
-use Rattle.std.specs.FinMap.{get}
-use Rattle.std.proofs.lemmas.Bool.{cases_lt}
-use Rattle.nw_digest.specs.declared.digest.Digest.{Digest}
-use Rattle.nw_codec.specs.declared.block.Block.{Block}
-use Rattle.nw_codec.specs.declared.certificate.Certificate.{Certificate}
-use Rattle.nw_model.specs.declared.wanted.Wanted.{Wanted}
-use Rattle.nw_waiting.specs.Pairs.{Pairs, Lacks}
-use Rattle.nw_digest.specs.Order.{Slot}
-use Rattle.nw_model.specs.State.{State}
-use Rattle.nw_model.specs.Step.{raised}
-use Rattle.nw_model.specs.Sound.{IsSound}
-use Rattle.nw_model.specs.Paths.{IsStanding}
-use Rattle.nw_model.proofs.Raised.{was_there, is_kept}
-use Rattle.nw_model.proofs.Complete.{one_block}
-use Rattle.nw_digest.proofs.Elements.{contains_none}
-use Rattle.nw_digest.proofs.Found.{which, is_there}
-use Rattle.nw_state.specs.Standing.{Stands, IsMet}
+use Rattle.nw_dag.proofs.Words.{◌≡◌, ◌↔◌, ◌⊎◌, ℕ, ◌<◌, ◌≤◌, List, [], Some, IsSome, ap, arith, inl, inr, Contains, get, cases_lt, Digest, Block, Certificate, Wanted, Pairs, Lacks, Slot, State, raised, IsSound, IsStanding, was_there, is_kept, one_block, contains_none, which, is_there, Stands, IsMet, AreDigestsUpTo}
 use Rattle.nw_dag.specs.Lacking.{ReferencesParent, IsReady, IsPromoted, AreLacking, AreUnmet}
-use Rattle.nw_state.specs.Collection.{AreDigestsUpTo}
 use Rattle.nw_dag.specs.Collection.{AreReleased, StandsButLacks}
 
 module _ (s : State) (round : ℕ) (sound : IsSound s) (higher : s.floor < round) (holders : List Digest) (are : AreDigestsUpTo s round holders) where

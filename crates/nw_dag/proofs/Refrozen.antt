@@ -1,17 +1,5 @@
 -- Frozen blocks after a collection.
-use Rattle.std.proofs.Common.{ℕ, ◌<◌, List, subst, sym, arith, inl, inr}
-use Rattle.std.specs.Prelude.{Contains}
-use Rattle.std.specs.FinMap.{FinMap}
-use Rattle.std.proofs.lemmas.List.Elements.{Contains-append_left}
-use Rattle.nw_digest.specs.declared.digest.Digest.{Digest}
-use Rattle.nw_codec.specs.declared.block.Block.{Block}
-use Rattle.nw_waiting.specs.Pairs.{Pairs}
-use Rattle.nw_digest.specs.Order.{digest_cmp}
-use Rattle.nw_model.specs.State.{State}
-use Rattle.nw_model.specs.Step.{raised}
-use Rattle.nw_model.specs.Sound.{IsSound}
-use Rattle.nw_model.proofs.Raised.{was_there, is_kept}
-use Rattle.nw_state.specs.Collection.{AreDigestsUpTo}
+use Rattle.nw_dag.proofs.Words.{ℕ, ◌<◌, List, subst, sym, arith, inl, inr, Contains, FinMap, Contains-append_left, Digest, Block, Pairs, digest_cmp, State, raised, IsSound, was_there, is_kept, AreDigestsUpTo}
 use Rattle.nw_dag.specs.Lacking.{IsReady}
 use Rattle.nw_dag.specs.Frozen.{AreFrozenExcept, Grows}
 use Rattle.nw_dag.proofs.Raising.{held_stands, stood}

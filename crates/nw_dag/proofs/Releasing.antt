@@ -1,19 +1,8 @@
 -- Holders that are released: they lack nothing from then on.
-use Rattle.std.proofs.Common.{◌≡◌, ℕ, ◌+◌, ◌<◌, List, [], ◌∷◌, ◌++◌, length, get_or, take, ap, refl, sym, ◌∙◌, subst, arith, inl, inr, length-append, length-take}
-use Rattle.std.specs.Prelude.{Contains}
+use Rattle.nw_dag.proofs.Words.{◌≡◌, ℕ, ◌+◌, ◌<◌, List, [], ◌∷◌, ◌++◌, length, get_or, take, ap, refl, sym, ◌∙◌, subst, arith, inl, inr, length-append, Contains, eq_by_cmp, eq_by_cmp_equiv, get_or-take, get_or_default, All-weaker, All-contains, Contains-push_cases, Contains-append_left, Contains-push, Contains-get_or, true≢false, Digest, Pairs, Lacks, without_holder, digest_cmp, State, contains_cases, contains_first, contains_none, digests_total}
+use Rattle.std.proofs.Common.{length-take}
 use Rattle.std.specs.List.{IsDistinct}
-use Rattle.std.specs.Ordering.{eq_by_cmp}
-use Rattle.std.specs.Cmp.{eq_by_cmp_equiv}
-use Rattle.std.proofs.lemmas.List.{get_or-take, get_or_default}
-use Rattle.std.proofs.lemmas.List.Elements.{All-weaker, All-contains, Contains-push_cases, Contains-append_left, Contains-push, Contains-get_or}
 use Rattle.std.proofs.lemmas.Map.Keys.{apart_from_distinct}
-use Rattle.std.proofs.lemmas.Bool.{true≢false}
-use Rattle.nw_digest.specs.declared.digest.Digest.{Digest}
-use Rattle.nw_waiting.specs.Pairs.{Pairs, Lacks, without_holder}
-use Rattle.nw_digest.specs.Order.{digest_cmp}
-use Rattle.nw_model.specs.State.{State}
-use Rattle.nw_digest.proofs.Elements.{contains_cases, contains_first, contains_none}
-use Rattle.nw_digest.proofs.Maps.{digests_total}
 use Rattle.nw_dag.specs.Lacking.{LacksSomething, IsReady}
 use Rattle.nw_dag.specs.Changes.{AppendsThose}
 use Rattle.nw_dag.specs.AtRest.{AreListed, HasPendingCount}

@@ -1,10 +1,7 @@
 -- The rest of a list after `retain` with a closure.
-use Rattle.std.proofs.Common.{◌≡◌, ◌↔◌, Bool, true, false, List, [], ◌∷◌, length, refl, subst, sym, arith, inl, inr}
-use Rattle.std.proofs.lemmas.Bool.{false≢true}
-use Rattle.std.specs.Prelude.{Contains}
+use Rattle.nw_dag.proofs.Words.{◌≡◌, ◌↔◌, Bool, true, false, List, [], ◌∷◌, length, refl, subst, sym, arith, inl, inr, false≢true, Contains, contains_cases, contains_first, contains_later, contains_none}
 use Rattle.std.specs.List.{items_where_true}
 use Rattle.std.specs.List.Retain.{ReturnsInTurn, IsFiltered}
-use Rattle.nw_digest.proofs.Elements.{contains_cases, contains_first, contains_later, contains_none}
 
 module _ {X F : Type 0} (R : F → X → Bool → F → Type 0) (P : X → Type 0) (f : F) (h : (x : X) (b : Bool) (g : F) → R f x b g → ((b ≡ true) ↔ P x) × (g ≡ f)) where
   told : (bs : List Bool) (xs : List X) (q : F) → length bs ≡ length xs → ReturnsInTurn R f bs xs q → (x : X) → Contains (items_where_true bs xs) x ↔ (Contains xs x × P x)

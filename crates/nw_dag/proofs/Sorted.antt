@@ -1,24 +1,11 @@
 -- Sorting distinct digests.
-use Rattle.std.proofs.Common.{◌≡◌, ◌↔◌, ◌+◌, Bool, true, false, List, [], ◌∷◌, length, Option, Some, None, is_some, cond, refl, ap, sym, ◌∙◌, subst, inl, inr, add-one}
-use Rattle.std.specs.Prelude.{Contains}
+use Rattle.nw_dag.proofs.Words.{◌≡◌, ◌↔◌, ◌+◌, Bool, true, false, List, [], ◌∷◌, length, Option, Some, None, is_some, cond, refl, ap, sym, ◌∙◌, subst, inl, inr, Contains, IsStrictlySortedBy, eq_by_cmp, eq_by_cmp_equiv, keys_of, insert_entry, len, from_entries, len-insert, length-map, All-from_recursion, All-contains, IsDistinct-head, IsDistinct-tail, true≢false, Digest, sorted_insert, digest_cmp, HasCount, contains_cases, contains_first, contains_later, ordered_none, digests_total, digests_apart, put_entries, same_digest}
+use Rattle.std.proofs.Common.{add-one}
 use Rattle.std.specs.List.{IsDistinct}
-use Rattle.std.specs.List.Sorted.{IsStrictlySortedBy}
-use Rattle.std.specs.Ordering.{eq_by_cmp}
-use Rattle.std.specs.Cmp.{eq_by_cmp_equiv}
-use Rattle.std.specs.Map.{lookup, keys_of}
-use Rattle.std.specs.BTreeMap.{is_at, insert_entry}
-use Rattle.std.specs.FinMap.{len, from_entries, len-insert}
-use Rattle.std.proofs.lemmas.List.{length-map}
-use Rattle.std.proofs.lemmas.List.Elements.{All-from_recursion, All-contains}
-use Rattle.std.proofs.lemmas.Map.Keys.{IsDistinct-head, IsDistinct-tail}
+use Rattle.std.specs.Map.{lookup}
+use Rattle.std.specs.BTreeMap.{is_at}
 use Rattle.std.proofs.lemmas.Map.Views.{Contains-keys_from_lookup, IsSome-lookup_from_Contains}
-use Rattle.std.proofs.lemmas.Bool.{true≢false}
-use Rattle.nw_digest.specs.declared.digest.Digest.{Digest}
-use Rattle.nw_trie.proofs.Inserts.{sorted_insert}
-use Rattle.nw_digest.specs.Order.{digest_cmp}
-use Rattle.nw_model.specs.Missing.{HasCount}
-use Rattle.nw_digest.proofs.Elements.{contains_cases, contains_first, contains_later, ordered_none}
-use Rattle.nw_digest.proofs.Maps.{digests_total, digests_apart, lookup_put, put_entries, get_lookup, len_sorted, same_digest}
+use Rattle.nw_digest.proofs.Maps.{lookup_put, get_lookup, len_sorted}
 
 -- the digests of the list, as the keys of sorted entries
 record InOrder (xs : List Digest) : Type 0 where

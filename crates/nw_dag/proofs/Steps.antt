@@ -1,17 +1,8 @@
 -- The tables, from one step of the cascade to the next.
-use Rattle.std.proofs.Common.{◌≡◌, ℕ, ◌+◌, ◌-◌, ◌<◌, ◌≤◌, List, [], ◌∷◌, ◌++◌, length, get_or, drop, Option, Some, None, refl, ap, sym, ◌∙◌, subst, arith, inl, inr, append_assoc, length-append}
-use Rattle.std.specs.Prelude.{Contains}
+use Rattle.nw_dag.proofs.Words.{◌≡◌, ℕ, ◌+◌, ◌-◌, ◌<◌, ◌≤◌, List, [], ◌∷◌, ◌++◌, length, get_or, drop, Option, Some, None, refl, ap, sym, ◌∙◌, subst, arith, inl, inr, append_assoc, length-append, Contains, get, drop_at, length_push, All-weaker, All-contains, Contains-append_left, Contains-append_right, Contains-push, Contains-get_or, Digest, Block, Wanted, Pairs, Lacks, without_wanted, State, contains_cases, contains_first, contains_none, IsMet, Stands, name_of}
 use Rattle.std.specs.Option.{option_map}
-use Rattle.std.specs.FinMap.{get}
-use Rattle.std.proofs.lemmas.List.{drop_more, drop_all, drop-append-le, drop_at, length_push}
-use Rattle.std.proofs.lemmas.List.Elements.{All-weaker, All-contains, Contains-append_left, Contains-append_right, Contains-push, Contains-get_or}
-use Rattle.nw_digest.specs.declared.digest.Digest.{Digest}
-use Rattle.nw_codec.specs.declared.block.Block.{Block}
-use Rattle.nw_model.specs.declared.wanted.Wanted.{Wanted}
-use Rattle.nw_waiting.specs.Pairs.{Pairs, Lacks, AreHolders, without_wanted}
-use Rattle.nw_model.specs.State.{State}
-use Rattle.nw_digest.proofs.Elements.{contains_cases, contains_first, contains_none}
-use Rattle.nw_state.specs.Standing.{IsMet, Stands, name_of}
+use Rattle.std.proofs.lemmas.List.{drop_more, drop_all, drop-append-le}
+use Rattle.nw_waiting.specs.Pairs.{AreHolders}
 use Rattle.nw_dag.specs.Lacking.{IsReady, AreUnmet, AreUnmetWithout}
 use Rattle.nw_dag.specs.Changes.{AppendsThose, Promotes}
 use Rattle.nw_dag.specs.Frozen.{Grows}

@@ -1,17 +1,7 @@
 -- The parents that a holder lacks after one more reference is tested.
-use Rattle.std.proofs.Common.{◌≡◌, ◌↔◌, ℕ, List, [], ◌∷◌, ◌++◌, length, Bool, true, false, Result, Ok, Err, sym, ◌∙◌, subst, arith, inl, inr}
-use Rattle.std.specs.Prelude.{Contains, OnOk, IsTrue, nat_eq}
-use Rattle.std.specs.FinSet.{insert}
-use Rattle.std.proofs.lemmas.List.Elements.{Contains-push_cases, Contains-append_left, Contains-push}
-use Rattle.nw_digest.specs.declared.digest.Digest.{Digest}
-use Rattle.nw_codec.specs.declared.block.Ref.{Ref}
-use Rattle.nw_model.specs.declared.wanted.Wanted.{Wanted}
-use Rattle.nw_waiting.specs.Pairs.{Pairs, Lacks, LacksCount}
-use Rattle.nw_model.specs.State.{State}
-use Rattle.nw_digest.proofs.Elements.{contains_first, contains_none}
-use Rattle.nw_state.specs.Standing.{Stands, IsMet}
+use Rattle.nw_dag.proofs.Words.{◌≡◌, ◌↔◌, ℕ, List, [], ◌∷◌, ◌++◌, length, Bool, true, false, Result, Ok, Err, sym, ◌∙◌, subst, arith, inl, inr, Contains, IsTrue, nat_eq, insert, Contains-push_cases, Contains-append_left, Contains-push, Digest, Ref, Wanted, Pairs, Lacks, LacksCount, State, contains_first, contains_none, Stands, IsMet, IsNamedBy}
+use Rattle.std.specs.Prelude.{OnOk}
 use Rattle.nw_dag.specs.Lacking.{AreSplit, IsNamedAmong, LacksNothing, LacksSomething, IsReady}
-use Rattle.nw_model.specs.Missing.{IsNamedBy}
 use Rattle.nw_dag.specs.Changes.{AreSameExcept, LacksAlso}
 use Rattle.nw_waiting.specs.Parted.{Parted}
 use Rattle.nw_dag.proofs.Pairs.{lacks_more, lacks_new, lacks_still}

@@ -1,25 +1,11 @@
 -- The tables after a block or a certificate is added.
-use Rattle.std.proofs.Common.{◌≡◌, ◌⊎◌, ℕ, ◌+◌, ◌<◌, Bool, true, false, List, [], Some, None, IsSome, is_some, cond, refl, ap, sym, ◌∙◌, subst, arith, inl, inr}
-use Rattle.std.specs.Ordering.{eq_by_cmp}
-use Rattle.std.specs.FinMap.{FinMap, get, insert, len, get-insert, len-insert}
-use Rattle.std.specs.FinSet.{contains, same_set}
-use Rattle.nw_digest.specs.declared.digest.Digest.{Digest}
-use Rattle.nw_codec.specs.declared.block.Block.{Block}
-use Rattle.nw_codec.specs.declared.certificate.Certificate.{Certificate}
-use Rattle.nw_model.specs.declared.wanted.Wanted.{Wanted}
-use Rattle.nw_waiting.specs.Pairs.{Pairs, Lacks, without_holder, without_wanted}
-use Rattle.nw_digest.specs.Order.{digest_cmp}
-use Rattle.nw_model.specs.State.{State}
-use Rattle.nw_model.specs.Step.{with_block, with_certificate}
-use Rattle.nw_model.proofs.Kept.{after_insert, at_insert, some_none}
-use Rattle.nw_digest.proofs.Elements.{contains_none}
-use Rattle.nw_digest.proofs.Maps.{digests_total, same_digest}
-use Rattle.nw_digest.proofs.Found.{not_there}
-use Rattle.nw_state.specs.Standing.{IsMet}
+use Rattle.nw_dag.proofs.Words.{◌≡◌, ◌⊎◌, ℕ, ◌+◌, ◌<◌, Bool, true, false, List, [], Some, None, IsSome, is_some, cond, refl, ap, sym, ◌∙◌, subst, arith, inl, inr, eq_by_cmp, FinMap, get, len, len-insert, contains, Digest, Block, Certificate, Wanted, Pairs, Lacks, without_holder, without_wanted, digest_cmp, State, with_block, with_certificate, after_insert, at_insert, contains_none, digests_total, same_digest, not_there, IsMet, pairs_apart, pairs_total}
+use Rattle.std.specs.FinMap.{insert, get-insert}
+use Rattle.std.specs.FinSet.{same_set}
+use Rattle.nw_model.proofs.Kept.{some_none}
 use Rattle.nw_dag.specs.Lacking.{ReferencesParent, IsNamedAmong, IsReady, AreSplit, AreUnmet, AreLacking}
 use Rattle.nw_dag.specs.Changes.{AreSameExcept, LacksAlso}
 use Rattle.nw_dag.specs.AtRest.{IsComingToRest, IsAtRest, IsAtRestWithout}
-use Rattle.nw_waiting.proofs.Orders.{pairs_apart, pairs_total}
 use Rattle.nw_dag.proofs.Pairs.{without_holder_lacks, without_wanted_lacks}
 use Rattle.nw_dag.proofs.Arrival.{Arrives, AreLackingSince, arrived, listed_arrived, listed_apart, ready_was, unmet_arrived}
 

@@ -1,13 +1,12 @@
 -- The four clauses of `decode_message`, from `Decodes`.
-use Rattle.std.proofs.Common.{◌≡◌, ◌≢◌, ◌↔◌, ◌⊎◌, inl, inr, ℕ, List, Result, Ok, Err, sym, ap, ◌∙◌, subst}
-use Rattle.std.specs.Result.{IsErrOf, IfOk, IfErr}
-use Rattle.nw_codec.specs.declared.message.Message.{Message}
+use Rattle.nw_decode.proofs.Words.{◌≡◌, ◌≢◌, ◌↔◌, ◌⊎◌, inl, inr, ℕ, List, Result, Ok, Err, sym, ap, ◌∙◌, subst, IfOk, Message, Spells, IsSpelled}
+use Rattle.std.specs.Result.{IsErrOf, IfErr}
 use Rattle.nw_codec.specs.declared.message.Message.TheVariants as messages
 use Rattle.nw_decode.specs.declared.error.DecodeError.{DecodeError}
 use Rattle.nw_decode.specs.declared.error.DecodeError.TheVariants.{NoMemory}
 use Rattle.nw_decode.specs.Faults.{AtTag, IsWhole, IsFirstFault}
 use Rattle.nw_decode.specs.Parts.{Decodes}
-use Rattle.nw_codec.specs.Spelled.{Spells, IsSpelled, DecodingAllocates}
+use Rattle.nw_codec.specs.Spelled.{DecodingAllocates}
 use Rattle.nw_decode.proofs.Fronts.{one_fault, not_both}
 use Rattle.nw_decode.proofs.Decided.{never_memory}
 use Rattle.nw_decode.proofs.Written.{spelled_is_whole}

@@ -1,7 +1,6 @@
 -- Strictly ascending numbers, one after another.
-use Rattle.std.proofs.Common.{◌≡◌, ℕ, zero, suc, ◌+◌, ◌<◌, true, List, [], ◌∷◌, get_or, Option, Some, None, refl, arith}
+use Rattle.nw_decode.proofs.Words.{◌≡◌, ℕ, zero, suc, ◌+◌, ◌<◌, true, List, [], ◌∷◌, get_or, Option, Some, None, refl, arith, lt-ltb, ltb-true}
 use Rattle.std.specs.List.Sorted.{IsStrictlyIncreasing}
-use Rattle.std.proofs.lemmas.Bool.{lt-ltb, ltb-true}
 use Rattle.nw_decode.specs.Faults.{comes_after}
 
 -- the number is greater than the one before, if there is one

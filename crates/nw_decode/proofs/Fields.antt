@@ -1,18 +1,14 @@
 -- Fields as the code reads them: what passes, what fails, and with which fault.
-use Rattle.std.proofs.Common.{◌≡◌, ◌≢◌, ℕ, suc, ◌+◌, ◌-◌, ◌<◌, ◌≤◌, Bool, true, false, cond, eqb, ltb, List, [], ◌∷◌, ◌++◌, length, get_or, take, drop, Option, Some, Result, Ok, Err, refl, sym, ap, ◌∙◌, subst, append_assoc, add-one, mul-suc, arith}
-use Rattle.std.specs.Int.{w16, to_be_bytes, from_be_bytes}
-use Rattle.std.specs.Result.{MatchResult, IfOk, IsErrAnd}
-use Rattle.std.proofs.lemmas.Bool.{eq-eqb, ne_eqb, lt-ltb, le-ltb}
-use Rattle.std.proofs.lemmas.List.{take_at, take-append-drop, length-append, length-take}
+use Rattle.nw_decode.proofs.Words.{◌≡◌, ◌≢◌, ℕ, suc, ◌+◌, ◌-◌, ◌<◌, ◌≤◌, Bool, true, false, cond, eqb, ltb, List, [], ◌∷◌, ◌++◌, length, get_or, take, drop, Option, Some, Result, Ok, Err, refl, sym, ap, ◌∙◌, subst, append_assoc, arith, w16, to_be_bytes, IfOk, lt-ltb, le-ltb, take_at, take-append-drop, length-append, length-take, round_bytes, AreBytes, again16, back16, below16, bytes_of}
+use Rattle.std.proofs.Common.{add-one, mul-suc}
+use Rattle.std.specs.Int.{from_be_bytes}
+use Rattle.std.specs.Result.{MatchResult, IsErrAnd}
+use Rattle.std.proofs.lemmas.Bool.{eq-eqb, ne_eqb}
 use Rattle.std.proofs.lemmas.List.Elements.{All-take}
 use Rattle.nw_decode.specs.declared.error.DecodeError.{DecodeError}
 use Rattle.nw_decode.specs.declared.error.DecodeError.TheVariants.{Short, Tag, TransactionTooLong, BodyTooLong}
 use Rattle.nw_decode.specs.Faults.{Stage, AtTransaction, width, after_tag, after_field, number16, comes_after, Reaches, FaultFrom}
-use Rattle.nw_codec.specs.Grammar.{round_bytes}
 use Rattle.nw_decode.specs.Parts.{NumberAt, RoundAt, HeadAt, ItemsAt, LastSignature, ReadsCount, ReadsMember}
-use Rattle.nw_codec.specs.Typed.{AreBytes}
-use Rattle.nw_codec.proofs.Pieces.{again16, back16, below16}
-use Rattle.nw_codec.proofs.Pieces.{bytes_of}
 use Rattle.nw_decode.proofs.Ascending.{after_from_test}
 use Rattle.nw_decode.proofs.Passing.{count_passes, order_passes}
 use Rattle.nw_decode.proofs.Fronts.{one_field, passed, failed, short}

@@ -1,14 +1,9 @@
 -- Rows of fields that pass their tests: how they are built, and that each text stops at one place.
-use Rattle.std.proofs.Common.{◌≡◌, ◌≢◌, ℕ, ◌<◌, ◌≤◌, Bool, true, false, ltb, List, [], ◌∷◌, ◌++◌, length, take, drop, Option, Some, None, Result, Ok, Err, refl, sym, ap, subst, ◌∙◌, append_assoc, arith}
-use Rattle.std.specs.List.{flat_map}
+use Rattle.nw_decode.proofs.Words.{◌≡◌, ◌≢◌, ℕ, ◌<◌, ◌≤◌, Bool, true, false, ltb, List, [], ◌∷◌, ◌++◌, length, take, drop, Option, Some, None, Result, Ok, Err, refl, sym, ap, subst, ◌∙◌, append_assoc, arith, flat_map, MatchBool, le-ltb, lt-ltb, append-nil, take_at, take-append-drop, length-append, length-take, same_start}
 use Rattle.std.specs.Option.{MatchOption}
-use Rattle.std.specs.Bool.{MatchBool}
-use Rattle.std.proofs.lemmas.Bool.{le-ltb, lt-ltb}
-use Rattle.std.proofs.lemmas.List.{append-nil, take_at, take-append-drop, length-append, length-take}
 use Rattle.nw_decode.specs.declared.error.DecodeError.{DecodeError}
 use Rattle.nw_decode.specs.declared.error.DecodeError.TheVariants.{Short, Trailing}
 use Rattle.nw_decode.specs.Faults.{Stage, AtEnd, width, after_field, Leads, Reaches, StopsAt, FaultFrom}
-use Rattle.nw_codec.proofs.Pieces.{same_start}
 
 -- ---- equal options and results
 

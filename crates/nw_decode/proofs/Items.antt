@@ -1,20 +1,13 @@
 -- Lists of items with ascending numbers, as parents with their authors and seals with their signers.
-use Rattle.std.proofs.Common.{◌≡◌, ℕ, zero, suc, ◌^◌, ◌<◌, List, [], ◌∷◌, ◌++◌, length, map, Option, Some, None, refl, sym, ap, subst, ◌∙◌, append_assoc, arith}
-use Rattle.std.specs.Int.{w16, to_be_bytes}
-use Rattle.std.specs.List.{flat_map, AllByRecursion}
-use Rattle.nw_codec.specs.declared.block.Ref.{Ref}
-use Rattle.nw_codec.specs.declared.certificate.Seal.{Seal}
+use Rattle.nw_decode.proofs.Words.{◌≡◌, ℕ, zero, suc, ◌^◌, ◌<◌, List, [], ◌∷◌, ◌++◌, length, Option, Some, None, refl, sym, ap, subst, ◌∙◌, append_assoc, arith, w16, to_be_bytes, flat_map, AllByRecursion, Ref, Seal, parent_bytes, seal_bytes, AreBytes, IsRef, IsSeal, same_start, same16, again16, back16, below16, bytes_of}
+use Rattle.std.proofs.Common.{map}
 use Rattle.nw_decode.specs.declared.error.DecodeError.{DecodeError}
 use Rattle.nw_decode.specs.declared.error.DecodeError.TheVariants.{ParentOrder, VoteOrder}
-use Rattle.nw_codec.specs.Grammar.{parent_bytes, seal_bytes}
-use Rattle.nw_codec.specs.Typed.{AreBytes, IsRef, IsSeal}
 use Rattle.nw_decode.specs.Faults.{Stage, AtParentDigest, AtSealSignature, AtEnd, at_parents, at_seals, number16, comes_after, Reaches}
 use Rattle.nw_decode.specs.Parts.{AreItems}
-use Rattle.nw_codec.proofs.Pieces.{same_start, same16, again16, back16, below16}
 use Rattle.nw_decode.proofs.Ascending.{IsAfter, Ascends, after_from_test}
 use Rattle.nw_decode.proofs.Fronts.{going_is, here, onward, one_field}
 use Rattle.nw_decode.proofs.Passing.{order_passes}
-use Rattle.nw_codec.proofs.Pieces.{bytes_of}
 use Rattle.nw_decode.proofs.Steps.{step, to, own_front, else_choice, one_more}
 
 -- ---- items

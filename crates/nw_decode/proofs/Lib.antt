@@ -1,3 +1,4 @@
+pub mod Words
 pub mod Fronts
 pub mod Decided
 pub mod Ascending

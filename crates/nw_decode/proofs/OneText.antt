@@ -1,21 +1,9 @@
 -- A text has one message, and no message's text begins another's.
-use Rattle.std.proofs.Common.{◌≡◌, ℕ, ◌^◌, ◌<◌, ◌≤◌, List, [], ◌∷◌, ◌++◌, length, refl, sym, ap, ◌∙◌, append_assoc, arith}
-use Rattle.std.specs.Int.{w16, w32, to_be_bytes}
-use Rattle.std.specs.List.{flat_map, AllByRecursion}
-use Rattle.std.proofs.lemmas.List.Elements.{recursion_from_All, All-weaker}
-use Rattle.nw_codec.specs.declared.block.Ref.{Ref}
-use Rattle.nw_codec.specs.declared.block.Block.{Block}
-use Rattle.nw_codec.specs.declared.certificate.Signature.{Signature}
-use Rattle.nw_codec.specs.declared.certificate.Certificate.{Certificate}
-use Rattle.nw_codec.specs.declared.vote.Vote.{Vote}
-use Rattle.nw_codec.specs.declared.message.Message.{Message}
+use Rattle.nw_decode.proofs.Words.{◌≡◌, ℕ, ◌^◌, ◌<◌, ◌≤◌, List, [], ◌∷◌, ◌++◌, length, refl, sym, ap, ◌∙◌, append_assoc, arith, w16, w32, to_be_bytes, flat_map, AllByRecursion, recursion_from_All, Ref, Block, Signature, Certificate, Vote, Message, round_bytes, parent_bytes, transaction_bytes, Fits, MessageFits, IsRef, IsBlock, IsSignature, IsMessage, Spells, first_is, same_start, same16, same48}
+use Rattle.std.proofs.lemmas.List.Elements.{All-weaker}
 use Rattle.nw_codec.specs.declared.message.Message.TheVariants as messages
-use Rattle.nw_codec.specs.Grammar.{round_bytes, parent_bytes, message}
-use Rattle.nw_codec.specs.Packed.{transaction_bytes}
-use Rattle.nw_codec.specs.Fits.{Fits, MessageFits}
-use Rattle.nw_codec.specs.Typed.{IsRef, IsBlock, IsSignature, IsMessage}
-use Rattle.nw_codec.specs.Spelled.{Spells}
-use Rattle.nw_codec.proofs.Pieces.{first_is, same_start, same16, same32, same48}
+use Rattle.nw_codec.specs.Grammar.{message}
+use Rattle.nw_codec.proofs.Pieces.{same32}
 use Rattle.nw_decode.proofs.Items.{parent_kind, same_items}
 use Rattle.nw_decode.proofs.WrittenBlock.{block_message_is}
 use Rattle.nw_decode.proofs.WrittenVotes.{certificate_message_is, vote_message_is}

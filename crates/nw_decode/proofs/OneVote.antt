@@ -1,18 +1,8 @@
 -- A text has one certificate and one vote.
-use Rattle.std.proofs.Common.{◌≡◌, ℕ, ◌^◌, ◌<◌, List, [], ◌∷◌, ◌++◌, length, refl, sym, ap, ◌∙◌}
-use Rattle.std.specs.Int.{w16, to_be_bytes}
-use Rattle.std.proofs.lemmas.List.Elements.{recursion_from_All}
+use Rattle.nw_decode.proofs.Words.{◌≡◌, ℕ, ◌^◌, ◌<◌, List, [], ◌∷◌, ◌++◌, length, refl, sym, ap, ◌∙◌, w16, to_be_bytes, recursion_from_All, Signature, Seal, Certificate, Subject, Vote, round_bytes, subject_bytes, seal, certificate_subject, vote_subject, IsSubject, IsSeal, IsCertificate, IsVote, same_start, same16, same48}
 use Rattle.nw_digest.specs.declared.digest.Digest.{Digest}
-use Rattle.nw_codec.specs.declared.certificate.Signature.{Signature}
-use Rattle.nw_codec.specs.declared.certificate.Seal.{Seal}
-use Rattle.nw_codec.specs.declared.certificate.Certificate.{Certificate}
-use Rattle.nw_codec.specs.declared.subject.Subject.{Subject}
-use Rattle.nw_codec.specs.declared.vote.Vote.{Vote}
 use Rattle.nw_codec.specs.declared.message.Message.TheVariants as messages
-use Rattle.nw_codec.specs.Grammar.{round_bytes, subject_bytes, seal, message}
-use Rattle.nw_codec.specs.Subject.{certificate_subject, vote_subject}
-use Rattle.nw_codec.specs.Typed.{IsSubject, IsSeal, IsCertificate, IsVote}
-use Rattle.nw_codec.proofs.Pieces.{same_start, same16, same48}
+use Rattle.nw_codec.specs.Grammar.{message}
 use Rattle.nw_decode.proofs.Items.{seal_kind, same_item, same_items}
 use Rattle.nw_decode.proofs.WrittenVotes.{subject_laid_out, certificate_message_is, vote_message_is}
 

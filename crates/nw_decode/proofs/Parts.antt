@@ -1,30 +1,16 @@
 -- The parts that the readers find are those of the message that the text spells.
-use Rattle.std.proofs.Common.{◌≡◌, ℕ, ◌+◌, ◌*◌, ◌<◌, ◌≤◌, ◌⊎◌, inl, inr, List, [], ◌∷◌, ◌++◌, length, All, take, drop, Some, None, refl, sym, ap, subst, ◌∙◌, append_assoc, arith}
-use Rattle.std.specs.Int.{w16, to_be_bytes}
-use Rattle.std.specs.List.{flat_map, AllByRecursion}
-use Rattle.std.proofs.lemmas.List.{append-nil, drop-drop, length-append, length-drop, length-take, nil_from_length, take-append-drop}
-use Rattle.std.proofs.lemmas.List.Elements.{recursion_from_All}
-use Rattle.nw_codec.specs.declared.block.Ref.{Ref}
-use Rattle.nw_codec.specs.declared.block.Block.{Block}
-use Rattle.nw_codec.specs.declared.certificate.Signature.{Signature}
-use Rattle.nw_codec.specs.declared.certificate.Seal.{Seal}
-use Rattle.nw_codec.specs.declared.certificate.Certificate.{Certificate}
-use Rattle.nw_codec.specs.declared.subject.Subject.{Subject}
-use Rattle.nw_codec.specs.declared.vote.Vote.{Vote}
+use Rattle.nw_decode.proofs.Words.{◌≡◌, ℕ, ◌+◌, ◌*◌, ◌<◌, ◌≤◌, ◌⊎◌, inl, inr, List, [], ◌∷◌, ◌++◌, length, take, drop, Some, None, refl, sym, ap, subst, ◌∙◌, append_assoc, arith, w16, to_be_bytes, flat_map, AllByRecursion, append-nil, length-append, length-drop, length-take, nil_from_length, take-append-drop, recursion_from_All, Ref, Block, Signature, Seal, Certificate, Subject, Vote, round_bytes, parent_bytes, subject_bytes, seal_bytes, seal, transaction_bytes, certificate_subject, vote_subject, AreBytes, IsRef, IsBlock, IsSeal, IsSubject, IsCertificate, Spells, same_start, same16, same48, bytes_of, length-subject}
+use Rattle.std.proofs.Common.{All}
+use Rattle.std.proofs.lemmas.List.{drop-drop}
 use Rattle.nw_codec.specs.declared.message.Message.TheVariants as messages
 use Rattle.nw_decode.specs.declared.error.DecodeError.{DecodeError}
 use Rattle.nw_decode.specs.declared.error.DecodeError.TheVariants.{Short, TooManyParents, TooManyTransactions, TooManyVotes}
-use Rattle.nw_codec.specs.Grammar.{round_bytes, parent_bytes, subject_bytes, seal_bytes, seal, message}
-use Rattle.nw_codec.specs.Packed.{ArePacked, transaction_bytes}
-use Rattle.nw_codec.specs.Subject.{certificate_subject, vote_subject}
-use Rattle.nw_codec.specs.Typed.{AreBytes, IsRef, IsBlock, IsSeal, IsSubject, IsCertificate}
-use Rattle.nw_codec.specs.Spelled.{Spells}
+use Rattle.nw_codec.specs.Grammar.{message}
+use Rattle.nw_codec.specs.Packed.{ArePacked}
 use Rattle.nw_decode.specs.Faults.{Kind, Stage, AtDigest, AtSubjectRound, AtSubjectAuthor, FaultFrom, stage_after_subject, AtSignature, AtVersion, AtAuthor, AtRound, AtParentCount, AtTransactionCount, AtVoteCount, AtSealSignature, AtEnd, at_parents, at_transactions, at_seals, Reaches}
 use Rattle.nw_decode.specs.Parts.{ReadsCount, NumberAt, RoundAt, HeadAt, ItemsAt, ParentsAt, TransactionsAt, LastSignature, IsLast, AreBlockParts, AreCertificateParts}
-use Rattle.nw_codec.proofs.Pieces.{same_start, same16, same48}
 use Rattle.nw_codec.proofs.Packed.{are_packed}
-use Rattle.nw_codec.proofs.Pieces.{bytes_of}
-use Rattle.nw_codec.proofs.Sizes.{length-parents, length-seals, length-subject}
+use Rattle.nw_codec.proofs.Sizes.{length-parents, length-seals}
 use Rattle.nw_decode.proofs.Fields.{number_len, round_leaves, short_as}
 use Rattle.nw_decode.proofs.Fronts.{onward, one_field, passed, later}
 use Rattle.nw_decode.proofs.WrittenBlock.{block_message_is}

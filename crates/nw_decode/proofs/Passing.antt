@@ -1,6 +1,5 @@
 -- The tests of counts and orders pass at the encoding of a number within the limits.
-use Rattle.std.proofs.Common.{◌≡◌, ℕ, ◌≤◌, true, false, cond, ltb, Option, Ok, Err, refl, sym, subst}
-use Rattle.std.proofs.lemmas.Bool.{le-ltb}
+use Rattle.nw_decode.proofs.Words.{◌≡◌, ℕ, ◌≤◌, true, false, cond, ltb, Option, Ok, Err, refl, sym, subst, le-ltb}
 use Rattle.nw_decode.specs.declared.error.DecodeError.{DecodeError}
 use Rattle.nw_decode.specs.Faults.{Stage, comes_after}
 use Rattle.nw_decode.proofs.Ascending.{IsAfter, after_test}

@@ -1,20 +1,11 @@
 -- The fields at the front of a text: a text has one front, and a message's text begins with the message's fields.
-use Rattle.std.proofs.Common.{◌≡◌, ℕ, ◌≤◌, List, [], ◌∷◌, ◌++◌, length, get_or, take, drop, Option, Some, None, refl, sym, ap, ◌∙◌, append_assoc, inl, inr, arith}
-use Rattle.std.specs.Int.{w16, to_be_bytes}
-use Rattle.std.proofs.lemmas.List.{append-nil, length-append, take-append-drop}
-use Rattle.nw_codec.specs.declared.message.Message.{Message}
+use Rattle.nw_decode.proofs.Words.{◌≡◌, ℕ, ◌≤◌, List, [], ◌∷◌, ◌++◌, length, get_or, take, drop, Option, Some, None, refl, sym, ap, ◌∙◌, append_assoc, inl, inr, arith, w16, to_be_bytes, append-nil, length-append, take-append-drop, Message, Subject, round_bytes, subject_bytes, Spells, vote_subject, IsSubject, length-subject, first_is, same_start, same16, same48}
 use Rattle.nw_codec.specs.declared.message.Message.TheVariants as messages
 use Rattle.nw_decode.specs.declared.peek.Peek.{Peek}
 use Rattle.nw_decode.specs.declared.peek.Peek.TheVariants as peeks
-use Rattle.nw_codec.specs.declared.subject.Subject.{Subject}
-use Rattle.nw_codec.specs.Grammar.{round_bytes, subject_bytes, message}
+use Rattle.nw_codec.specs.Grammar.{message}
 use Rattle.nw_decode.specs.Parts.{NumberAt}
 use Rattle.nw_decode.specs.Peek.{peek_of, BeginsWith, HasPeek, Peeks}
-use Rattle.nw_codec.specs.Spelled.{Spells}
-use Rattle.nw_codec.specs.Subject.{vote_subject}
-use Rattle.nw_codec.specs.Typed.{IsSubject}
-use Rattle.nw_codec.proofs.Sizes.{length-subject}
-use Rattle.nw_codec.proofs.Pieces.{first_is, same_start, same16, same48}
 use Rattle.nw_decode.proofs.OneVote.{same_subject}
 use Rattle.nw_decode.proofs.WrittenBlock.{block_message_is}
 use Rattle.nw_decode.proofs.WrittenVotes.{certificate_message_is, vote_message_is}

@@ -1,9 +1,6 @@
 -- Fields that lead to the end, read one by one.
-use Rattle.std.proofs.Common.{◌≡◌, ℕ, suc, ◌≤◌, Bool, true, false, cond, eqb, List, [], ◌∷◌, ◌++◌, length, get_or, Some, Ok, Err, refl, sym, ap, subst, ◌∙◌, append_assoc, arith}
-use Rattle.std.proofs.lemmas.Bool.{eqb-true}
+use Rattle.nw_decode.proofs.Words.{◌≡◌, ℕ, suc, ◌≤◌, Bool, true, false, cond, eqb, List, [], ◌∷◌, ◌++◌, length, get_or, Some, Ok, Err, refl, sym, ap, subst, ◌∙◌, append_assoc, arith, eqb-true, AreBytes, bytes_of}
 use Rattle.nw_decode.specs.declared.error.DecodeError.{DecodeError}
-use Rattle.nw_codec.specs.Typed.{AreBytes}
-use Rattle.nw_codec.proofs.Pieces.{bytes_of}
 use Rattle.nw_decode.specs.Faults.{Stage, AtEnd, width, after_field, Leads, Reaches}
 use Rattle.nw_decode.proofs.Fronts.{joined, some_is, going, going_is}
 

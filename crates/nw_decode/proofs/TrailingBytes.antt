@@ -1,8 +1,7 @@
 -- Trailing is exactly the fault of texts in which bytes follow a message.
-use Rattle.std.proofs.Common.{◌≡◌, ◌↔◌, ℕ, List, ◌++◌, refl, sym, ap, subst, ◌∙◌}
+use Rattle.nw_decode.proofs.Words.{◌≡◌, ◌↔◌, ℕ, List, ◌++◌, refl, sym, ap, subst, ◌∙◌, AreBytes}
 use Rattle.nw_decode.specs.declared.error.DecodeError.TheVariants.{Trailing}
 use Rattle.nw_codec.specs.Grammar.{message}
-use Rattle.nw_codec.specs.Typed.{AreBytes}
 use Rattle.nw_decode.specs.Faults.{AtTag, AtEnd, Reaches, IsFirstFault}
 use Rattle.nw_codec.specs.Spelled.{HasTrailingBytes}
 use Rattle.nw_decode.proofs.Decided.{after_the_end}

@@ -1,26 +1,14 @@
 -- If all fields of a text pass their tests, from the version to the end, the text is that of a block within the limits.
-use Rattle.std.proofs.Common.{◌≡◌, ℕ, zero, suc, ◌+◌, ◌*◌, ◌^◌, ◌<◌, ◌≤◌, ltb, List, [], ◌∷◌, ◌++◌, length, None, refl, sym, ap, ◌∙◌, arith}
-use Rattle.std.specs.Int.{w16, w32, to_be_bytes}
-use Rattle.std.specs.List.{flat_map, AllByRecursion}
-use Rattle.std.proofs.lemmas.Bool.{ltb-false}
-use Rattle.std.proofs.lemmas.List.Elements.{All-from_recursion}
-use Rattle.std.proofs.lemmas.List.Sums.{sum_by-cons}
-use Rattle.nw_codec.specs.declared.block.Ref.{Ref}
-use Rattle.nw_codec.specs.declared.block.Block.{Block}
-use Rattle.nw_codec.specs.declared.certificate.Signature.{Signature}
+use Rattle.nw_decode.proofs.Words.{◌≡◌, ℕ, zero, suc, ◌+◌, ◌*◌, ◌^◌, ◌<◌, ◌≤◌, ltb, List, [], ◌∷◌, ◌++◌, length, None, refl, sym, ap, ◌∙◌, arith, w16, w32, to_be_bytes, flat_map, AllByRecursion, ltb-false, All-from_recursion, sum_by-cons, Ref, Block, Signature, round_bytes, parent_bytes, transaction_bytes, authors, transactions_size, Fits, AreBytes, IsRef, IsBlock, IsSignature, back16, below16, round_of, back48, below48, bytes_of}
 use Rattle.nw_codec.specs.declared.message.Message.TheVariants as messages
 use Rattle.nw_decode.specs.declared.error.DecodeError.TheVariants.{Version, TooManyParents, TooManyTransactions, TransactionTooLong, BodyTooLong}
-use Rattle.nw_codec.specs.Grammar.{round_bytes, parent_bytes, message}
-use Rattle.nw_codec.specs.Packed.{transaction_bytes}
-use Rattle.nw_codec.specs.Fits.{authors, transactions_size, Fits}
-use Rattle.nw_codec.specs.Typed.{AreBytes, IsRef, IsBlock, IsSignature}
+use Rattle.nw_codec.specs.Grammar.{message}
 use Rattle.nw_decode.specs.Faults.{AtVersion, AtAuthor, AtRound, AtParentCount, AtTransactionCount, AtTransactionLength, AtTransaction, AtSignature, AtEnd, at_parents, at_transactions, number16, number32, Reaches}
-use Rattle.nw_codec.proofs.Pieces.{back16, below16, back32, round_of, back48, below48}
+use Rattle.nw_codec.proofs.Pieces.{back32}
 use Rattle.nw_decode.proofs.Ascending.{Ascends, increasing}
 use Rattle.nw_decode.proofs.Fronts.{going_is, here, one_end}
 use Rattle.nw_decode.proofs.WrittenBlock.{block_message_is}
 use Rattle.nw_decode.proofs.Items.{parent_kind, read_items}
-use Rattle.nw_codec.proofs.Pieces.{bytes_of}
 use Rattle.nw_decode.proofs.Steps.{step, to, own_front, choice, two_choices, one_more, two_pieces, with_rest, at_most, read_one}
 
 -- ---- transactions

@@ -1,17 +1,10 @@
 -- If all fields of a text pass their tests, then it is the text of a message within the limits.
-use Rattle.std.proofs.Common.{◌≡◌, ℕ, Bool, true, false, cond, eqb, List, [], ◌∷◌, ◌++◌, length, get_or, Ok, Err, refl, sym, ap, ◌∙◌, arith}
-use Rattle.std.proofs.lemmas.Bool.{eqb-true}
-use Rattle.std.proofs.lemmas.List.{append-nil}
-use Rattle.nw_codec.specs.declared.message.Message.{Message}
+use Rattle.nw_decode.proofs.Words.{◌≡◌, ℕ, Bool, true, false, cond, eqb, List, [], ◌∷◌, ◌++◌, length, get_or, Ok, Err, refl, sym, ap, ◌∙◌, arith, eqb-true, append-nil, Message, MessageFits, AreBytes, IsMessage, IsSpelled, bytes_of}
 use Rattle.nw_codec.specs.declared.message.Message.TheVariants as messages
 use Rattle.nw_decode.specs.declared.error.DecodeError.TheVariants.{Tag}
 use Rattle.nw_codec.specs.Grammar.{message}
-use Rattle.nw_codec.specs.Fits.{MessageFits}
-use Rattle.nw_codec.specs.Typed.{AreBytes, IsMessage}
 use Rattle.nw_decode.specs.Faults.{Stage, OfCertificate, OfVote, AtTag, AtVersion, AtDigest, AtEnd, Reaches}
-use Rattle.nw_codec.specs.Spelled.{IsSpelled}
 use Rattle.nw_decode.proofs.Fronts.{going, going_is}
-use Rattle.nw_codec.proofs.Pieces.{bytes_of}
 use Rattle.nw_decode.proofs.Steps.{step, to, own_front, else_choice}
 use Rattle.nw_decode.proofs.WholeBlock.{read_block}
 use Rattle.nw_decode.proofs.WholeVotes.{read_certificate, read_vote}

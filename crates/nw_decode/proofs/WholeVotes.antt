@@ -1,24 +1,13 @@
 -- If all fields of a text pass their tests, from a digest to the end, the text is that of a vote, or of a certificate within the limits.
-use Rattle.std.proofs.Common.{◌≡◌, ℕ, ltb, List, [], ◌∷◌, ◌++◌, length, None, refl, sym, ap, ◌∙◌}
-use Rattle.std.specs.Int.{w16, to_be_bytes}
-use Rattle.std.specs.List.{flat_map}
-use Rattle.std.proofs.lemmas.Bool.{ltb-false}
-use Rattle.std.proofs.lemmas.List.Elements.{All-from_recursion}
-use Rattle.nw_codec.specs.declared.certificate.Certificate.{Certificate}
-use Rattle.nw_codec.specs.declared.subject.Subject.{Subject}
-use Rattle.nw_codec.specs.declared.vote.Vote.{Vote}
+use Rattle.nw_decode.proofs.Words.{◌≡◌, ℕ, ltb, List, [], ◌∷◌, ◌++◌, length, None, refl, sym, ap, ◌∙◌, w16, to_be_bytes, flat_map, ltb-false, All-from_recursion, Certificate, Subject, Vote, round_bytes, subject_bytes, seal_bytes, signers, CertificateFits, AreBytes, IsSeal, IsSubject, IsCertificate, IsVote, back16, below16, round_of, back48, below48, bytes_of}
 use Rattle.nw_codec.specs.declared.message.Message.TheVariants as messages
 use Rattle.nw_decode.specs.declared.error.DecodeError.TheVariants.{TooManyVotes}
-use Rattle.nw_codec.specs.Grammar.{round_bytes, subject_bytes, seal_bytes, message}
-use Rattle.nw_codec.specs.Fits.{signers, CertificateFits}
-use Rattle.nw_codec.specs.Typed.{AreBytes, IsSeal, IsSubject, IsCertificate, IsVote}
+use Rattle.nw_codec.specs.Grammar.{message}
 use Rattle.nw_decode.specs.Faults.{Kind, OfCertificate, OfVote, AtDigest, AtSubjectRound, AtSubjectAuthor, AtVoteCount, AtEnd, at_seals, stage_after_subject, number16, Reaches}
-use Rattle.nw_codec.proofs.Pieces.{back16, below16, round_of, back48, below48}
 use Rattle.nw_decode.proofs.Ascending.{increasing}
 use Rattle.nw_decode.proofs.Fronts.{going_is, here, one_end}
 use Rattle.nw_decode.proofs.WrittenVotes.{certificate_message_is, vote_message_is}
 use Rattle.nw_decode.proofs.Items.{seal_kind, read_item, read_items}
-use Rattle.nw_codec.proofs.Pieces.{bytes_of}
 use Rattle.nw_decode.proofs.Steps.{step, to, own_front, choice, two_pieces, with_rest, at_most}
 
 -- ---- the subject

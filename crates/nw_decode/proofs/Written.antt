@@ -1,13 +1,8 @@
 -- The fields of a message within the limits pass their tests.
-use Rattle.std.proofs.Common.{ℕ, List, [], ◌++◌, sym, subst, ◌∙◌}
-use Rattle.std.proofs.lemmas.List.{append-nil}
-use Rattle.nw_codec.specs.declared.message.Message.{Message}
+use Rattle.nw_decode.proofs.Words.{ℕ, List, [], ◌++◌, sym, subst, ◌∙◌, append-nil, Message, MessageFits, IsMessage, IsSpelled}
 use Rattle.nw_codec.specs.declared.message.Message.TheVariants as messages
 use Rattle.nw_codec.specs.Grammar.{message}
-use Rattle.nw_codec.specs.Fits.{MessageFits}
-use Rattle.nw_codec.specs.Typed.{IsMessage}
 use Rattle.nw_decode.specs.Faults.{AtTag, AtEnd, Reaches}
-use Rattle.nw_codec.specs.Spelled.{IsSpelled}
 use Rattle.nw_decode.proofs.WrittenBlock.{written_block}
 use Rattle.nw_decode.proofs.WrittenVotes.{written_certificate, written_vote}
 

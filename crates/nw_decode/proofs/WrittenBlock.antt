@@ -1,20 +1,10 @@
 -- The fields of a block within the limits pass their tests.
-use Rattle.std.proofs.Common.{◌≡◌, ℕ, ◌+◌, ◌*◌, ◌≤◌, false, cond, ltb, List, [], ◌∷◌, ◌++◌, length, Some, None, Ok, Err, refl, sym, ap, subst, ◌∙◌, append_assoc, arith}
-use Rattle.std.specs.Int.{w16, w32, to_be_bytes}
-use Rattle.std.specs.List.{flat_map, AllByRecursion}
-use Rattle.std.proofs.lemmas.Bool.{le-ltb}
-use Rattle.std.proofs.lemmas.List.Elements.{recursion_from_All}
-use Rattle.std.proofs.lemmas.List.Sums.{sum_by-cons}
-use Rattle.nw_codec.specs.declared.block.Block.{Block}
-use Rattle.nw_codec.specs.declared.certificate.Signature.{Signature}
+use Rattle.nw_decode.proofs.Words.{◌≡◌, ℕ, ◌+◌, ◌*◌, ◌≤◌, false, cond, ltb, List, [], ◌∷◌, ◌++◌, length, Some, None, Ok, Err, refl, sym, ap, subst, ◌∙◌, append_assoc, arith, w16, w32, to_be_bytes, flat_map, AllByRecursion, le-ltb, recursion_from_All, sum_by-cons, Block, Signature, round_bytes, parent_bytes, transaction_bytes, authors, transactions_size, Fits, IsRef, IsBlock, IsSignature, again16}
 use Rattle.nw_codec.specs.declared.message.Message.TheVariants as messages
 use Rattle.nw_decode.specs.declared.error.DecodeError.TheVariants.{TooManyParents, TooManyTransactions, TransactionTooLong, BodyTooLong}
-use Rattle.nw_codec.specs.Grammar.{round_bytes, parent_bytes, body, message}
-use Rattle.nw_codec.specs.Packed.{transaction_bytes}
-use Rattle.nw_codec.specs.Fits.{authors, transactions_size, Fits}
-use Rattle.nw_codec.specs.Typed.{IsRef, IsBlock, IsSignature}
+use Rattle.nw_codec.specs.Grammar.{body, message}
 use Rattle.nw_decode.specs.Faults.{AtTag, AtVersion, AtAuthor, AtRound, AtParentCount, AtTransactionCount, AtTransactionLength, AtTransaction, AtSignature, AtEnd, at_parents, at_transactions, Reaches}
-use Rattle.nw_codec.proofs.Pieces.{again16, again32}
+use Rattle.nw_codec.proofs.Pieces.{again32}
 use Rattle.nw_decode.proofs.Ascending.{ascends}
 use Rattle.nw_decode.proofs.Passing.{count_passes}
 use Rattle.nw_decode.proofs.Items.{parent_kind, written_items}

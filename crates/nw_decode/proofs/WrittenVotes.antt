@@ -1,19 +1,9 @@
 -- The fields of a certificate within the limits pass their tests, and so do those of a vote.
-use Rattle.std.proofs.Common.{◌≡◌, ℕ, ◌≤◌, List, [], ◌∷◌, ◌++◌, length, Some, None, refl, sym, ap, subst, append_assoc, arith}
-use Rattle.std.specs.Int.{w16, to_be_bytes}
-use Rattle.std.specs.List.{flat_map}
-use Rattle.std.proofs.lemmas.List.Elements.{recursion_from_All}
-use Rattle.nw_codec.specs.declared.certificate.Certificate.{Certificate}
-use Rattle.nw_codec.specs.declared.subject.Subject.{Subject}
-use Rattle.nw_codec.specs.declared.vote.Vote.{Vote}
+use Rattle.nw_decode.proofs.Words.{◌≡◌, ℕ, ◌≤◌, List, [], ◌∷◌, ◌++◌, length, Some, None, refl, sym, ap, subst, append_assoc, arith, w16, to_be_bytes, flat_map, recursion_from_All, Certificate, Subject, Vote, round_bytes, subject_bytes, seal_bytes, seal, signers, CertificateFits, certificate_subject, vote_subject, IsSubject, IsSeal, IsCertificate, IsVote, again16}
 use Rattle.nw_codec.specs.declared.message.Message.TheVariants as messages
 use Rattle.nw_decode.specs.declared.error.DecodeError.TheVariants.{TooManyVotes}
-use Rattle.nw_codec.specs.Grammar.{round_bytes, subject_bytes, seal_bytes, seal, message}
-use Rattle.nw_codec.specs.Fits.{signers, CertificateFits}
-use Rattle.nw_codec.specs.Subject.{certificate_subject, vote_subject}
-use Rattle.nw_codec.specs.Typed.{IsSubject, IsSeal, IsCertificate, IsVote}
+use Rattle.nw_codec.specs.Grammar.{message}
 use Rattle.nw_decode.specs.Faults.{Kind, OfCertificate, OfVote, AtTag, AtDigest, AtSubjectRound, AtSubjectAuthor, AtVoteCount, AtSigner, AtEnd, at_seals, stage_after_subject, Reaches}
-use Rattle.nw_codec.proofs.Pieces.{again16}
 use Rattle.nw_decode.proofs.Ascending.{ascends}
 use Rattle.nw_decode.proofs.Items.{seal_kind, written_item, written_items}
 use Rattle.nw_decode.proofs.Fronts.{onward, one_field}

@@ -1,16 +1,12 @@
 -- Sums over combs: a row represents multiples by powers of 2^16, and the digits of all rows make the number.
-use Rattle.std.proofs.Common.{◌≡◌, ℕ, zero, suc, ◌+◌, ◌*◌, ◌/◌, ◌%◌, ◌^◌, ◌<◌, refl, sym, ◌∙◌, ap, subst, arith}
-use Rattle.std.proofs.Math.Nat.{div-div-eq-div-mul, pow-suc, mod-one, mod-eq_of_lt, div-add-mod}
-use Rattle.std.proofs.lemmas.Nat.{pow-add, mod-pow-add}
-use Rattle.nw_curve.specs.Curve.{identity, doubled}
-use Rattle.nw_curve.specs.Completed.{normalized}
-use Rattle.nw_curve.specs.declared.curve.point.Point.{Point}
-use Rattle.nw_curve.proofs.AffineGroup.{Affine, IsOnCurve, times, times_valid, neutral_sum}
-use Rattle.nw_curve.proofs.Extended.{Represents, added_represents, identity_represents}
-use Rattle.nw_curve.proofs.Inverses.{not_divided-has_inverse}
+use Rattle.nw_ed25519.proofs.Words.{◌≡◌, ℕ, zero, suc, ◌+◌, ◌*◌, ◌/◌, ◌%◌, ◌^◌, ◌<◌, refl, sym, ◌∙◌, ap, subst, arith, div-div-eq-div-mul, pow-suc, mod-eq_of_lt, div-add-mod, pow-add, identity, doubled, normalized, Point, Affine, IsOnCurve, times_valid, Represents, added_represents, not_divided-has_inverse, combination, combination_of_zeros}
+use Rattle.std.proofs.Math.Nat.{mod-one}
+use Rattle.std.proofs.lemmas.Nat.{mod-pow-add}
+use Rattle.nw_curve.proofs.AffineGroup.{times, neutral_sum}
+use Rattle.nw_curve.proofs.Extended.{identity_represents}
 use Rattle.nw_curve.proofs.Negatives.{times_product}
 use Rattle.nw_curve.proofs.Normalized.{normalized_represents}
-use Rattle.nw_curve.proofs.Tables.{combination, combination_of_zeros, entry_doubles, first_added, second_added, combination_doubled}
+use Rattle.nw_curve.proofs.Tables.{entry_doubles, first_added, second_added, combination_doubled}
 use Rattle.nw_ed25519.specs.Comb.{repeated, doubled_times, row_point, chunk, digit, with_rows, AreAllProper}
 
 repeated_represents : (n : ℕ) (p : Point) (a : Affine) → IsOnCurve a → Represents p a → Represents (repeated n p) (times n a)

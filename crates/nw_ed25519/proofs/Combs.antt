@@ -1,16 +1,12 @@
 -- Combs: their entries, and the digits of numbers.
-use Rattle.std.proofs.Common.{◌≡◌, ℕ, zero, suc, ◌+◌, ◌-◌, ◌*◌, ◌/◌, ◌%◌, ◌^◌, ◌<◌, ◌≤◌, List, [], ◌∷◌, ◌++◌, length, get_or, refl, sym, ◌∙◌, ap, arith, add-one, append_assoc, length-append, le_refl, lit<}
-use Rattle.std.proofs.Math.Nat.{add-mul-div_left, add-mul-mod_self_left, div-div-eq-div-mul, div-add-mod, one-le-pow, mul-le-mul, mod-eq_of_lt, pow-le-pow_right}
+use Rattle.nw_ed25519.proofs.Words.{◌≡◌, ℕ, zero, suc, ◌+◌, ◌-◌, ◌*◌, ◌/◌, ◌%◌, ◌^◌, ◌<◌, ◌≤◌, List, [], ◌∷◌, ◌++◌, length, get_or, refl, sym, ◌∙◌, ap, arith, le_refl, lit<, div-div-eq-div-mul, div-add-mod, mod-eq_of_lt, dec_le, pow-add, identity, added, doubled, normalized, Point, AffineAddend}
+use Rattle.std.proofs.Common.{add-one, append_assoc, length-append}
+use Rattle.std.proofs.Math.Nat.{add-mul-div_left, add-mul-mod_self_left, one-le-pow, mul-le-mul, pow-le-pow_right}
 use Rattle.std.proofs.Math.ListN.{get_or-append}
-use Rattle.std.proofs.Math.Decide.{dec_le}
-use Rattle.std.proofs.lemmas.Nat.{pow-add}
 use Rattle.std.proofs.lemmas.List.{get_or-append_right, append-nil}
-use Rattle.nw_curve.specs.Curve.{identity, added, doubled}
 use Rattle.nw_curve.specs.Field.{times, inverse as field_inverse}
 use Rattle.nw_curve.specs.Inverse.{IsInverse, HasInverse}
-use Rattle.nw_curve.specs.Completed.{affine_prepared, normalized}
-use Rattle.nw_curve.specs.declared.curve.point.Point.{Point}
-use Rattle.nw_curve.specs.declared.curve.completed.AffineAddend.{AffineAddend}
+use Rattle.nw_curve.specs.Completed.{affine_prepared}
 use Rattle.nw_curve.proofs.Inverses.{inverse_of, product-has_inverse, first_inverse, second_inverse}
 use Rattle.nw_ed25519.specs.Comb.{repeated, doubled_times, row_point, entry_of, down_to, blocks, rows, digit, with_rows, AreProper, IsPushed}
 

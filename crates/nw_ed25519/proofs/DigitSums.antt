@@ -1,16 +1,12 @@
 -- Numbers by their digits, and sums of two points by digits.
-use Rattle.std.proofs.Common.{◌≡◌, ◌≢◌, ℕ, zero, suc, ◌+◌, ◌-◌, ◌*◌, ◌/◌, ◌%◌, ◌^◌, ◌<◌, List, [], ◌∷◌, length, get_or, drop, replicate, drop-cons, get_or-drop, refl, get_or-set_same, get_or-set_other, arith, ◌≤◌, Bool, true, false, ◌==◌, ap, sym, ◌∙◌, rules, pow_mono}
+use Rattle.nw_ed25519.proofs.Words.{◌≡◌, ◌≢◌, ℕ, zero, suc, ◌+◌, ◌-◌, ◌*◌, ◌/◌, ◌%◌, ◌^◌, ◌<◌, List, [], ◌∷◌, length, get_or, drop, drop-cons, refl, get_or-set_other, arith, ◌≤◌, Bool, true, false, ap, sym, ◌∙◌, rules, pow-suc, add-mul-mod_self_right, dec_le, pow-add, length-replicate, doubled, identity, Point, Affine, IsOnCurve, Represents, combination, combination_of_zeros}
+use Rattle.std.proofs.Common.{replicate, get_or-drop, get_or-set_same, ◌==◌, pow_mono}
 use Rattle.std.proofs.Math.ListN.{set, get_or-eq_default}
-use Rattle.std.proofs.Math.Nat.{pow-zero, pow-suc, div-add-mod', add-mul-mod_self_right}
-use Rattle.std.proofs.Math.Decide.{ℕ_discrete, dec_le}
-use Rattle.std.proofs.lemmas.Nat.{pow-add}
+use Rattle.std.proofs.Math.Nat.{pow-zero, div-add-mod'}
+use Rattle.std.proofs.Math.Decide.{ℕ_discrete}
 use Rattle.std.proofs.lemmas.Bool.Decides.{nat_tests}
-use Rattle.std.proofs.lemmas.List.{get_or-replicate, length-replicate}
-use Rattle.nw_curve.specs.Curve.{doubled, identity}
-use Rattle.nw_curve.specs.declared.curve.point.Point.{Point}
-use Rattle.nw_curve.proofs.AffineGroup.{Affine, IsOnCurve}
-use Rattle.nw_curve.proofs.Extended.{Represents}
-use Rattle.nw_curve.proofs.Tables.{combination, combination_of_zeros, with_entry, with_normalized_entry, digits_added}
+use Rattle.std.proofs.lemmas.List.{get_or-replicate}
+use Rattle.nw_curve.proofs.Tables.{with_entry, with_normalized_entry, digits_added}
 use Rattle.nw_ed25519.specs.Digits.{digit_length, number_from_digits}
 
 -- a digit at a place that was 0

@@ -1,14 +1,10 @@
 -- The point that a verification compares with R, [s]B - [k]A, is one affine point: any computation that represents it gives the same 32 bytes.
-use Rattle.std.proofs.Common.{◌≡◌, ℕ, ◌^◌, ◌<◌, List, Some, sym, ◌∙◌, ap, subst}
+use Rattle.nw_ed25519.proofs.Words.{◌≡◌, ℕ, ◌^◌, ◌<◌, List, Some, sym, ◌∙◌, ap, subst, Point, base, added, negated, encoded, decoded, Affine, IsOnCurve, times_valid, Represents, added_represents, negative_of, negative_valid, negated_represents, affine_base, base_valid, base_represents, coordinates, PointIfAny, decoded_point}
 use Rattle.nw_ed25519.specs.Accepts.{expected}
-use Rattle.nw_curve.specs.declared.curve.point.Point.{Point}
-use Rattle.nw_curve.specs.Curve.{base, added, multiple, negated}
-use Rattle.nw_curve.specs.Coding.{encoded, decoded}
-use Rattle.nw_curve.proofs.AffineGroup.{Affine, IsOnCurve, affine_sum, sum_valid, times, times_valid}
-use Rattle.nw_curve.proofs.Extended.{Represents, added_represents}
-use Rattle.nw_curve.proofs.Negatives.{negative_of, negative_valid, negated_represents, times_negative}
+use Rattle.nw_curve.specs.Curve.{multiple}
+use Rattle.nw_curve.proofs.AffineGroup.{affine_sum, sum_valid, times}
+use Rattle.nw_curve.proofs.Negatives.{times_negative}
 use Rattle.nw_curve.proofs.Represented.{multiple_represents, encoding, encoded_is}
-use Rattle.nw_curve.proofs.Decoding.{affine_base, base_valid, base_represents, coordinates, PointIfAny, decoded_point}
 
 -- s B + k (-A)
 abbrev pub expected_point : ℕ → ℕ → Affine → Affine

@@ -1,9 +1,5 @@
 -- Prepared keys: the comb of a key's point.
-use Rattle.std.proofs.Common.{◌≡◌, ◌/◌, ◌^◌, Option, Some, None, refl, sym, ap, ◌∙◌, subst}
-use Rattle.nw_curve.specs.Curve.{negated}
-use Rattle.nw_curve.specs.declared.curve.point.Point.{Point}
-use Rattle.nw_curve.proofs.Decoding.{PointIfAny, coordinates}
-use Rattle.nw_curve.proofs.Negatives.{negative_of, negative_valid, negated_represents}
+use Rattle.nw_ed25519.proofs.Words.{◌≡◌, ◌/◌, ◌^◌, Option, Some, None, refl, sym, ap, ◌∙◌, subst, negated, Point, PointIfAny, coordinates, negative_of, negative_valid, negated_represents}
 use Rattle.nw_ed25519.specs.Comb.{rows, AreAllProper}
 use Rattle.nw_ed25519.specs.Prepared.{key_rows, entries_of, bits_of}
 use Rattle.nw_ed25519.specs.declared.comb.Comb.{Comb}

@@ -1,3 +1,4 @@
+pub mod Words
 mod CombSums
 mod Combs
 mod DigitSums

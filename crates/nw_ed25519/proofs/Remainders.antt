@@ -1,9 +1,9 @@
 -- Remainders of a long division, four bytes at a time.
-use Rattle.std.proofs.Common.{◌≡◌, ℕ, suc, ◌+◌, ◌-◌, ◌*◌, ◌%◌, ◌^◌, ◌<◌, ◌≤◌, List, ◌++◌, true, nat_lt, rules, refl, sym, ◌∙◌, ap, arith, lit<, drop, length, get_or, drop-cons}
-use Rattle.std.proofs.Math.Nat.{mod-eq_of_lt, mod-add-mod, add-mul-mod_self_right, add-mod_right, mod-lt}
+use Rattle.nw_ed25519.proofs.Words.{◌≡◌, ℕ, suc, ◌+◌, ◌-◌, ◌*◌, ◌%◌, ◌^◌, ◌<◌, ◌≤◌, List, ◌++◌, true, rules, refl, sym, ◌∙◌, ap, arith, lit<, drop, length, get_or, drop-cons, mod-eq_of_lt, add-mul-mod_self_right, number_from_bytes}
+use Rattle.std.proofs.Common.{nat_lt}
+use Rattle.std.proofs.Math.Nat.{mod-add-mod, add-mod_right, mod-lt}
 use Rattle.std.proofs.lemmas.Nat.{mul-mod_second}
 use Rattle.std.proofs.lemmas.List.{drop_all}
-use Rattle.nw_curve.specs.Bytes.{number_from_bytes}
 use Rattle.sha2.specs.Sha512.{sha512}
 use Rattle.nw_ed25519.specs.Accepts.{order, challenge}
 use Rattle.nw_ed25519.specs.Words.{word_at}

@@ -1,13 +1,9 @@
 -- The results of a verification.
-use Rattle.std.proofs.Common.{◌≡◌, ℕ, Bool, true, false, List, Option, Some, None, refl, take, rules}
-use Rattle.std.specs.Prelude.{nat_lt, slice_range}
-use Rattle.nw_curve.specs.Bytes.{number_from_bytes}
-use Rattle.nw_codec.specs.Same.{same_bytes}
+use Rattle.nw_ed25519.proofs.Words.{◌≡◌, ℕ, Bool, true, false, List, Option, Some, None, refl, rules, nat_lt, number_from_bytes, same_bytes, decoded, Point, negated}
+use Rattle.std.proofs.Common.{take}
+use Rattle.std.specs.Prelude.{slice_range}
 use Rattle.nw_codec.specs.declared.certificate.Signature.{Signature}
 use Rattle.nw_committee.specs.declared.member.Key.{Key}
-use Rattle.nw_curve.specs.Coding.{decoded}
-use Rattle.nw_curve.specs.declared.curve.point.Point.{Point}
-use Rattle.nw_curve.specs.Curve.{negated}
 use Rattle.nw_ed25519.specs.Comb.{rows}
 use Rattle.nw_ed25519.specs.Prepared.{key_rows, entries_of, bits_of}
 use Rattle.nw_ed25519.specs.declared.comb.Comb.{Comb}

@@ -1,3 +1,4 @@
+pub mod Words
 pub mod Searches
 pub mod Unions
 pub mod Merging

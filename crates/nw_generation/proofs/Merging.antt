@@ -1,17 +1,7 @@
 -- Merging two ascending lists of entries.
-use Rattle.std.proofs.Common.{◌≡◌, ℕ, ◌-◌, Bool, true, false, List, [], ◌∷◌, ◌++◌, Option, Some, None, cond, length, take, drop, refl, ap, sym, ◌∙◌, subst, arith}
+use Rattle.nw_generation.proofs.Words.{◌≡◌, ℕ, Bool, true, false, List, [], ◌∷◌, ◌++◌, Option, Some, None, cond, length, take, drop, refl, ap, sym, ◌∙◌, subst, arith, Less, Equal, is_eq, ordering_reverse, is_at, AllByRecursion, keys_of, option_or, FinMap, from_entries, get, same_map, Digest, Block, digest_cmp, digests_apart, digests_total, get_lookup, same_digest}
+use Rattle.std.proofs.Common.{◌-◌}
 use Rattle.std.proofs.lemmas.List.{take_rest}
-use Rattle.std.specs.declared.cmp.Ordering.TheVariants.{Less, Equal}
-use Rattle.std.specs.Ordering.{is_eq, ordering_reverse}
-use Rattle.std.specs.BTreeMap.{is_at}
-use Rattle.std.specs.List.{AllByRecursion}
-use Rattle.std.specs.Map.{keys_of}
-use Rattle.std.specs.Option.{option_or}
-use Rattle.std.specs.FinMap.{FinMap, from_entries, get, same_map}
-use Rattle.nw_digest.specs.declared.digest.Digest.{Digest}
-use Rattle.nw_codec.specs.declared.block.Block.{Block}
-use Rattle.nw_digest.specs.Order.{digest_cmp}
-use Rattle.nw_digest.proofs.Maps.{digests_apart, digests_total, get_lookup, same_digest}
 use Rattle.nw_generation.specs.Entries.{Ascend, ComesBeforeAll, IsNext, under}
 use Rattle.nw_generation.specs.Seen.{IsOverlay, union}
 use Rattle.nw_generation.proofs.Searches.{Entries, below_each, head_below, none_below, tail_ascends}

@@ -1,20 +1,11 @@
 -- Searches among ascending entries.
-use Rattle.std.proofs.Common.{◌≡◌, ℕ, Bool, true, false, List, [], ◌∷◌, ◌++◌, Some, None, cond, length, take, drop, get_or, refl, ap, sym, ◌∙◌, arith}
-use Rattle.std.specs.declared.cmp.Ordering.{Ordering}
-use Rattle.std.specs.declared.cmp.Ordering.TheVariants.{Less, Equal}
-use Rattle.std.specs.Ordering.{is_eq, ordering_reverse}
-use Rattle.std.specs.Str.{bytes_eq}
+use Rattle.nw_generation.proofs.Words.{◌≡◌, ℕ, Bool, true, false, List, [], ◌∷◌, ◌++◌, Some, None, cond, length, take, drop, get_or, refl, ap, sym, ◌∙◌, arith, Ordering, Less, Equal, is_eq, ordering_reverse, bytes_eq, keys_of, filter, nat_le, Digest, Block, digest_cmp, digests_total}
 use Rattle.std.proofs.lemmas.Map.Text.{is_eq-slice_cmp}
-use Rattle.std.specs.Map.{keys_of}
-use Rattle.std.specs.Prelude.{filter, nat_le}
 use Rattle.std.proofs.Math.Dec.{leb-zero}
 use Rattle.std.proofs.lemmas.Map.Keys.{sorted_head, sorted_tail}
-use Rattle.nw_digest.specs.declared.digest.Digest.{Digest}
-use Rattle.nw_codec.specs.declared.block.Block.{Block}
-use Rattle.nw_digest.specs.Order.{digest_cmp}
 use Rattle.nw_trie.proofs.Inserts.{above_all, below_all as each_above}
 use Rattle.nw_trie.proofs.Keys.{each_filter}
-use Rattle.nw_digest.proofs.Maps.{digests_total, find_below, find_lookup, tie}
+use Rattle.nw_digest.proofs.Maps.{find_below, find_lookup, tie}
 use Rattle.nw_generation.specs.Entries.{AreHeads, Ascend, ComesBeforeAll, IsHead, under, bytes_of}
 
 abbrev pub Entries : Type 0

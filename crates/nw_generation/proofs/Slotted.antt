@@ -1,14 +1,8 @@
 -- The blocks of slots are those of the entries.
-use Rattle.std.proofs.Common.{◌≡◌, ℕ, ◌<◌, true, List, [], ◌∷◌, ◌++◌, Some, cond, length, get_or, ap, sym, ◌∙◌, subst, arith, zero, suc}
-use Rattle.std.specs.declared.cmp.Ordering.TheVariants.{Less}
-use Rattle.std.specs.Ordering.{is_eq}
-use Rattle.std.specs.Str.{bytes_eq}
+use Rattle.nw_generation.proofs.Words.{◌≡◌, ℕ, ◌<◌, true, List, [], ◌∷◌, ◌++◌, Some, cond, length, get_or, ap, sym, ◌∙◌, subst, arith, Less, is_eq, bytes_eq, Digest, Block, digest_cmp, same_digest}
+use Rattle.std.proofs.Common.{zero, suc}
 use Rattle.std.proofs.lemmas.List.Elements.{All-append, All-cons, All-nil}
-use Rattle.nw_digest.specs.declared.digest.Digest.{Digest}
-use Rattle.nw_codec.specs.declared.block.Block.{Block}
-use Rattle.nw_digest.specs.Order.{digest_cmp}
 use Rattle.nw_trie.proofs.Inserts.{digest_equal}
-use Rattle.nw_digest.proofs.Maps.{same_digest}
 use Rattle.nw_generation.specs.declared.slots.SlottedBlock.{SlottedBlock}
 use Rattle.nw_generation.specs.Entries.{Ascend, ComesBeforeAll, under}
 use Rattle.nw_generation.specs.Slots.{AreSlotsOf}

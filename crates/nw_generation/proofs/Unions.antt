@@ -1,16 +1,9 @@
 -- Lookups in a union of generations.
-use Rattle.std.proofs.Common.{◌≡◌, ℕ, Bool, true, false, List, [], ◌∷◌, ◌++◌, ◌<◌, Option, Some, None, IfSome, All, cond, refl, ap, sym, ◌∙◌, subst, append_assoc, append-nil, length, arith}
-use Rattle.std.specs.Option.{option_or}
-use Rattle.std.specs.declared.cmp.Ordering.{Ordering}
-use Rattle.std.specs.BTreeMap.{is_at}
-use Rattle.std.specs.List.{AllByRecursion}
+use Rattle.nw_generation.proofs.Words.{◌≡◌, ℕ, Bool, true, false, List, [], ◌∷◌, ◌++◌, ◌<◌, Option, Some, None, All, cond, refl, ap, sym, ◌∙◌, subst, length, arith, option_or, Ordering, is_at, AllByRecursion, FinMap, get, same_map, Digest, Block, digest_cmp, digests_apart, digests_total}
+use Rattle.std.proofs.Common.{IfSome, append_assoc, append-nil}
 use Rattle.std.proofs.lemmas.List.Elements.{recursion_from_All}
-use Rattle.std.specs.FinMap.{FinMap, entries, get, get-empty, get-entries, get-from_entries, same_map}
+use Rattle.std.specs.FinMap.{entries, get-empty, get-entries, get-from_entries}
 use Rattle.std.specs.FinMap.Entries.{find}
-use Rattle.nw_digest.specs.declared.digest.Digest.{Digest}
-use Rattle.nw_codec.specs.declared.block.Block.{Block}
-use Rattle.nw_digest.specs.Order.{digest_cmp}
-use Rattle.nw_digest.proofs.Maps.{digests_apart, digests_total}
 use Rattle.nw_generation.specs.Entries.{under}
 use Rattle.nw_generation.specs.Seen.{HasUpTo, IsOfRound, IsWithin, latest_first, union}
 

@@ -3,13 +3,14 @@
 use crate::bindings::Bindings;
 use crate::fault::LineFault;
 use crate::members::block_message;
-use crate::words::{named, refused};
+use crate::words::{empty_line, named, refused};
 use nw_check::{Checked, check_message};
 use nw_codec::{Block, EncodeError, Transactions};
 use nw_digest::Digest;
 use nw_script::{BlockLine, Name};
 use nw_sig::DemoScheme;
 use std::alloc::Global;
+use std::fmt::Write;
 
 impl<'a> Bindings<'a> {
     /// Binds the name of the line to its block, and returns the line that says so. The name stays free if the block is over a limit. `Bad` if the name is bound or the name
@@ -26,7 +27,9 @@ impl<'a> Bindings<'a> {
         }
         let body = block.body_size();
         self.names.bind(name, block)?;
-        Ok(format!(in alloc; "block {name} {body}")?)
+        let mut line = empty_line(alloc)?;
+        write!(line, "block {name} {body}")?;
+        Ok(line)
     }
 
     fn block_of(&self, alloc: Global, line: &BlockLine<'a>) -> Result<Block, LineFault> {

@@ -20,4 +20,4 @@ mod words;
 pub use bindings::Bindings;
 pub use fault::LineFault;
 pub use members::{block_message, committee, vote_message};
-pub use words::{hash, refused};
+pub use words::{empty_line, hash, refused};

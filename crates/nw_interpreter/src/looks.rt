@@ -2,6 +2,7 @@
 
 use crate::bindings::Bindings;
 use crate::fault::LineFault;
+use crate::words::empty_line;
 use nw_digest::{Digest, Round};
 use nw_model::Look;
 use std::alloc::Global;
@@ -17,7 +18,7 @@ impl<'a> Bindings<'a> {
         round: Round,
         looks: &[(u16, Look)],
     ) -> Result<String, LineFault> {
-        let mut lines = String::new(alloc);
+        let mut lines = empty_line(alloc)?;
         for (author, look) in looks {
             if !lines.is_empty() {
                 lines.push('\n')?;
@@ -32,11 +33,18 @@ impl<'a> Bindings<'a> {
     }
 
     fn push_look(&self, line: &mut String, look: &Look) -> Result<(), LineFault> {
-        let (floor, first) = (look.floor.get(), self.name_or_dash(look.first)?);
+        let (floor, newest) = (look.floor.get(), look.newest.get());
+        let (first, missing) = (self.name_or_dash(look.first)?, look.missing);
         let certified = self.name_or_dash(look.certified)?;
         let (stands, complete) = (yes_or_no(look.stands), yes_or_no(look.complete));
-        write!(line, "g={floor} first={first} certified={certified} ")?;
-        write!(line, "stands={stands} complete={complete}")?;
+        write!(
+            line,
+            "g={floor} newest={newest} first={first} missing={missing} "
+        )?;
+        write!(
+            line,
+            "certified={certified} stands={stands} complete={complete}"
+        )?;
         Ok(())
     }
 

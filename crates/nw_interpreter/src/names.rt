@@ -7,6 +7,7 @@ use crate::fault::LineFault;
 use nw_codec::{Block, Ref, block_digest};
 use nw_digest::{Digest, Sequence};
 use nw_script::Name;
+use nw_trie::DigestMap;
 use std::alloc::Global;
 use std::collections::HashMap;
 use std::marker::Model;
@@ -52,7 +53,7 @@ impl NamedBlock {
 #[derive(Drop)]
 pub struct Names<'a> {
     blocks: HashMap<&'a str, NamedBlock>,
-    first_names: HashMap<[u8; 32], Name<'a>>,
+    first_names: DigestMap<Name<'a>, Global>,
 }
 
 impl<'a> Names<'a> {
@@ -60,7 +61,7 @@ impl<'a> Names<'a> {
     pub fn new(alloc: Global) -> Names<'a> {
         Names {
             blocks: HashMap::new(alloc),
-            first_names: HashMap::new(alloc),
+            first_names: DigestMap::new_in(alloc),
         }
     }
 
@@ -96,7 +97,9 @@ impl<'a> Names<'a> {
         requires { Fits block }
     {
         let digest = block_digest(&block);
-        self.first_names.entry(digest.0)?.or_insert(name);
+        if self.first_names.get(&digest).is_none() {
+            self.first_names.put(digest, name)?;
+        }
         drop(
             self.blocks
                 .insert(name.as_str(), NamedBlock { block, digest })?,
@@ -107,9 +110,6 @@ impl<'a> Names<'a> {
     /// The first name of a block with this digest. Each digest in a reply has one, since a script hands in named blocks only.
     /// `Bad` if there is none.
     pub fn first_name(&self, digest: &Digest) -> Result<Name<'a>, LineFault> {
-        self.first_names
-            .get(&digest.0)
-            .copied()
-            .ok_or(LineFault::Bad)
+        self.first_names.get(digest).copied().ok_or(LineFault::Bad)
     }
 }

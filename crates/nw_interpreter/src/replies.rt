@@ -2,7 +2,7 @@
 
 use crate::bindings::Bindings;
 use crate::fault::LineFault;
-use crate::words::{named, named_with};
+use crate::words::{empty_line, named, named_with};
 use nw_codec::{Block, Seal};
 use nw_model::{CausalReply, CertifyReply, CollectReply, Counts, Reply, Wanted, WriteReply};
 use nw_script::Name;
@@ -36,7 +36,9 @@ impl<'a> Bindings<'a> {
             }
             (Some(name), Reply::MissingOf(None)) => named(alloc, name, "unknown"),
             (None, Reply::Missing(missing)) => {
-                self.with_missing(format!(in alloc; "missing")?, missing.as_slice())
+                let mut line = empty_line(alloc)?;
+                line.push_str("missing")?;
+                self.with_missing(line, missing.as_slice())
             }
             (None, Reply::Status(counts)) => counted(alloc, counts),
             _ => Err(LineFault::Bad),
@@ -140,7 +142,8 @@ fn counted(alloc: Global, counts: &Counts) -> Result<String, LineFault> {
         wanted,
     } = counts;
     let floor = floor.get();
-    let mut line = format!(in alloc; "status g={floor} blocks={blocks} ")?;
+    let mut line = empty_line(alloc)?;
+    write!(line, "status g={floor} blocks={blocks} ")?;
     write!(
         line,
         "certificates={certificates} complete={complete} wanted={wanted}"

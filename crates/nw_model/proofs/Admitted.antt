@@ -1,14 +1,5 @@
 -- Each held block and certificate was admitted.
-use Rattle.std.proofs.Common.{◌≡◌, ℕ, List, [], ◌∷◌, Some, ap, sym, ◌∙◌, subst, inl, inr}
-use Rattle.std.specs.Prelude.{All}
-use Rattle.std.specs.FinMap.{get, get-empty}
-use Rattle.std.proofs.lemmas.List.Elements.{All-head, All-tail}
-use Rattle.nw_digest.specs.declared.digest.Digest.{Digest}
-use Rattle.nw_codec.specs.declared.block.Block.{Block}
-use Rattle.nw_codec.specs.declared.certificate.Certificate.{Certificate}
-use Rattle.nw_committee.specs.declared.member.Member.{Member}
-use Rattle.nw_sig.specs.Signed.{Meaning}
-use Rattle.nw_digest.specs.Order.{digest_cmp}
+use Rattle.nw_model.proofs.Words.{◌≡◌, ℕ, List, [], ◌∷◌, Some, ap, sym, ◌∙◌, subst, inl, inr, All, get, get-empty, All-head, All-tail, Digest, Block, Certificate, Member, Meaning, digest_cmp}
 use Rattle.nw_model.specs.State.{State, opening}
 use Rattle.nw_model.specs.Checks.{digest_of, IsWellFormed, IsValid}
 use Rattle.nw_model.specs.Step.{Bounds, after, after_write, after_certify, after_collect, write_reply, certify_reply, collect_reply}

@@ -1,12 +1,5 @@
 -- The search for the ancestors of a block goes round by round.
-use Rattle.std.proofs.Common.{◌≡◌, ◌⊎◌, ℕ, ◌+◌, ◌<◌, ◌≤◌, true, List, [], ◌∷◌, ◌++◌, Some, None, length, refl, ap, sym, ◌∙◌, subst, arith, inl, inr}
-use Rattle.std.specs.Prelude.{Contains, ◌==◌}
-use Rattle.std.specs.FinMap.{FinMap, get, insert}
-use Rattle.std.proofs.lemmas.List.Elements.{All-contains, Contains-get_or, Contains-push, Contains-push_cases}
-use Rattle.std.proofs.lemmas.Option.{none-some}
-use Rattle.nw_digest.specs.declared.digest.Digest.{Digest}
-use Rattle.nw_codec.specs.declared.block.Block.{Block}
-use Rattle.nw_digest.specs.Order.{Slot, slot_cmp}
+use Rattle.nw_model.proofs.Words.{◌≡◌, ◌⊎◌, ℕ, ◌+◌, ◌<◌, ◌≤◌, true, List, [], ◌∷◌, ◌++◌, Some, None, length, refl, ap, sym, ◌∙◌, subst, arith, inl, inr, Contains, ◌==◌, FinMap, get, insert, All-contains, Contains-get_or, Contains-push, Contains-push_cases, none-some, Digest, Block, Slot, slot_cmp}
 use Rattle.nw_model.specs.State.{block_slot}
 use Rattle.nw_model.specs.View.{Frozen, HasParent, IsClosed, HasBlock, IsParentIn, IsPathIn, IsAncestorIn}
 use Rattle.nw_model.specs.Search.{IsUnderSlot, AreUnderSlots, AreAbove, IsFoundAt, IsParentOfAny, Finds, FindsAncestors}

@@ -1,7 +1,7 @@
 -- The first events of a legal history are a legal history.
-use Rattle.std.proofs.Common.{ℕ, ◌+◌, ◌<◌, ◌≤◌, List, [], ◌∷◌, ◌++◌, length, subst, arith, length-append}
-use Rattle.std.specs.Prelude.{◌==◌, All}
-use Rattle.std.proofs.lemmas.List.Elements.{All-nil, All-cons, All-head, All-tail, filter-append}
+use Rattle.nw_model.proofs.Words.{ℕ, ◌+◌, ◌<◌, ◌≤◌, List, [], ◌∷◌, ◌++◌, length, subst, arith, ◌==◌, All, All-head, All-tail}
+use Rattle.std.proofs.Common.{length-append}
+use Rattle.std.proofs.lemmas.List.Elements.{All-nil, All-cons, filter-append}
 use Rattle.nw_model.specs.State.{State}
 use Rattle.nw_model.specs.Step.{Bounds, after}
 use Rattle.nw_model.specs.History.{AreReplies, AreNumbered, IsAdmitted, events_of}

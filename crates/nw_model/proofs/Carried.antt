@@ -1,10 +1,5 @@
 -- Calls keep the entries of a state, except those that a collection drops.
-use Rattle.std.proofs.Common.{◌≡◌, ℕ, ◌≤◌, Bool, List, [], ◌∷◌, Some, None, is_some, refl, arith}
-use Rattle.std.specs.FinMap.{get}
-use Rattle.nw_digest.specs.declared.digest.Digest.{Digest}
-use Rattle.nw_digest.proofs.Found.{is_absent}
-use Rattle.nw_codec.specs.declared.block.Block.{Block}
-use Rattle.nw_codec.specs.declared.certificate.Certificate.{Certificate}
+use Rattle.nw_model.proofs.Words.{◌≡◌, ℕ, ◌≤◌, Bool, List, [], ◌∷◌, Some, None, is_some, refl, arith, get, Digest, is_absent, Block, Certificate}
 use Rattle.nw_model.specs.State.{State}
 use Rattle.nw_model.specs.Step.{Bounds, after, after_write, after_certify, after_collect, write_reply, certify_reply, collect_reply}
 use Rattle.nw_model.specs.History.{replay}

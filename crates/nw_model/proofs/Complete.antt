@@ -1,15 +1,7 @@
 -- Complete blocks are those of the garbage round, and those whose parents are complete.
-use Rattle.std.proofs.Common.{◌≡◌, ◌↔◌, ◌⊎◌, ℕ, ◌+◌, ◌<◌, ◌≤◌, true, false, List, [], ◌∷◌, Option, Some, None, IsSome, is_some, IsTrue, nat_eq, All, get_or, refl, ap, sym, ◌∙◌, subst, arith, inl, inr}
-use Rattle.std.specs.Prelude.{Contains}
-use Rattle.std.specs.Ordering.{nat_cmp, is_le}
-use Rattle.std.specs.FinMap.{FinMap, get}
-use Rattle.std.proofs.lemmas.List.Elements.{All-contains, Contains-get_or}
-use Rattle.std.proofs.lemmas.Option.{none-some}
-use Rattle.nw_digest.specs.declared.digest.Digest.{Digest}
-use Rattle.nw_codec.specs.declared.block.Ref.{Ref}
-use Rattle.nw_codec.specs.declared.block.Block.{Block}
-use Rattle.nw_digest.specs.Order.{digest_cmp}
-use Rattle.nw_digest.proofs.Found.{which}
+use Rattle.nw_model.proofs.Words.{◌≡◌, ◌↔◌, ◌⊎◌, ℕ, ◌+◌, ◌<◌, ◌≤◌, true, false, List, [], ◌∷◌, Option, Some, None, IsSome, is_some, IsTrue, nat_eq, get_or, refl, ap, sym, ◌∙◌, subst, arith, inl, inr, Contains, nat_cmp, FinMap, get, All-contains, Contains-get_or, none-some, Digest, Ref, Block, digest_cmp, which}
+use Rattle.std.proofs.Common.{All}
+use Rattle.std.specs.Ordering.{is_le}
 use Rattle.nw_model.specs.State.{State}
 use Rattle.nw_model.specs.Paths.{IsStanding, IsSatisfied, IsParent, IsPath, IsComplete}
 use Rattle.nw_model.specs.Sound.{IsSound}

@@ -1,24 +1,11 @@
 -- A causal list contains the causal list of each of its blocks.
-use Rattle.std.proofs.Common.{◌≡◌, ◌⊎◌, ℕ, zero, suc, ◌+◌, ◌≤◌, Bool, true, false, cond, List, [], ◌∷◌, ◌++◌, Option, Some, None, IsSome, map, refl, sym, subst, arith, inl, inr}
-use Rattle.std.specs.Prelude.{Contains, filter, ◌==◌}
-use Rattle.std.specs.List.{AllByRecursion}
+use Rattle.nw_model.proofs.Words.{◌≡◌, ◌⊎◌, ℕ, zero, suc, ◌+◌, ◌≤◌, Bool, true, false, cond, List, [], ◌∷◌, ◌++◌, Option, Some, None, IsSome, map, refl, sym, subst, arith, inl, inr, Contains, filter, ◌==◌, AllByRecursion, eq_by_cmp_equiv, eq_by_cmp, Ordering, Less, FinMap, get, All-from_recursion, recursion_from_All, Digest, Ref, Block, digest_cmp, digests_total, same_digest, contains_first, contains_later, contains_cases, contains_none, contains_filter}
 use Rattle.std.specs.List.Sorted.{IsStrictlySortedBy}
-use Rattle.std.specs.Cmp.{eq_by_cmp_equiv}
-use Rattle.std.specs.Ordering.{eq_by_cmp}
-use Rattle.std.specs.declared.cmp.Ordering.{Ordering}
-use Rattle.std.specs.declared.cmp.Ordering.TheVariants.{Less}
-use Rattle.std.specs.FinMap.{FinMap, get}
-use Rattle.std.proofs.lemmas.List.Elements.{All-contains_itself, All-from_recursion, recursion_from_All}
-use Rattle.nw_digest.specs.declared.digest.Digest.{Digest}
-use Rattle.nw_codec.specs.declared.block.Ref.{Ref}
-use Rattle.nw_codec.specs.declared.block.Block.{Block}
-use Rattle.nw_digest.specs.Order.{digest_cmp}
+use Rattle.std.proofs.lemmas.List.Elements.{All-contains_itself}
 use Rattle.nw_model.specs.State.{State}
 use Rattle.nw_model.specs.Paths.{block_cmp, IsStanding, IsSatisfied, IsParent, IsPath, IsAncestor, IsComplete, IsCausalList}
 use Rattle.nw_model.specs.Laws.{CausalListsContainThoseOfTheirBlocks}
-use Rattle.nw_digest.proofs.Maps.{digests_total, same_digest}
 use Rattle.nw_model.proofs.Complete.{one_block, parent_complete}
-use Rattle.nw_digest.proofs.Elements.{contains_first, contains_later, contains_cases, contains_none, contains_filter}
 
 -- ---- paths
 

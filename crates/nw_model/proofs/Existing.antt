@@ -1,27 +1,14 @@
 -- Each digest of a sound state has one causal list.
-use Rattle.std.proofs.Common.{◌≡◌, ◌↔◌, List, [], ◌∷◌, Some, is_some, map, refl, ap, sym, ◌∙◌, subst, inl, inr}
-use Rattle.std.specs.Prelude.{Contains, filter}
-use Rattle.std.specs.List.{AllByRecursion}
+use Rattle.nw_model.proofs.Words.{◌≡◌, ◌↔◌, List, [], ◌∷◌, Some, is_some, map, refl, ap, sym, ◌∙◌, subst, inl, inr, Contains, filter, AllByRecursion, IsTotalOrder, option_map_or, Ordering, Less, FinMap, get, keys, contains_key-keys, on_total, Digest, Block, digest_cmp, Slot, slot_cmp, slots_total, slots_apart, same_digest, contains_first, contains_later, contains_cases, contains_filter, which}
 use Rattle.std.specs.List.Sorted.{IsStrictlySortedBy}
-use Rattle.std.specs.Cmp.{IsTotalOrder}
-use Rattle.std.specs.Option.{option_map_or}
 use Rattle.std.specs.Ordering.{match_ordering, ordering_reverse}
 use Rattle.std.specs.BTreeSet.{insert_key}
-use Rattle.std.specs.declared.cmp.Ordering.{Ordering}
-use Rattle.std.specs.declared.cmp.Ordering.TheVariants.{Less, Equal, Greater}
-use Rattle.std.specs.FinMap.{FinMap, get, keys, contains_key-keys}
-use Rattle.std.proofs.lemmas.Cmp.{on_total}
+use Rattle.std.specs.declared.cmp.Ordering.TheVariants.{Equal, Greater}
 use Rattle.std.proofs.lemmas.Map.Views.{Contains-from_any}
-use Rattle.nw_digest.specs.declared.digest.Digest.{Digest}
-use Rattle.nw_codec.specs.declared.block.Block.{Block}
-use Rattle.nw_digest.specs.Order.{digest_cmp, Slot, slot_cmp}
 use Rattle.nw_model.specs.State.{State, block_slot}
 use Rattle.nw_model.specs.Sound.{IsSound}
 use Rattle.nw_model.specs.Paths.{IsStanding, IsPath, IsAncestor, IsCausalList, Lists}
 use Rattle.nw_model.specs.Laws.{CompleteDigestsHaveOneCausalList}
-use Rattle.nw_digest.proofs.Maps.{slots_total, slots_apart, same_digest}
-use Rattle.nw_digest.proofs.Elements.{contains_first, contains_later, contains_cases, contains_filter}
-use Rattle.nw_digest.proofs.Found.{which}
 use Rattle.nw_model.proofs.Listed.{same_lists}
 use Rattle.nw_model.proofs.Contained.{is_ancestor_decided, holds, holds_so, so_holds}
 use Rattle.nw_model.proofs.Walked.{ascending_by_slot}

@@ -1,14 +1,8 @@
 -- A search finds digests one after the other.
-use Rattle.std.proofs.Common.{◌≡◌, ◌↔◌, ◌⊎◌, ℕ, ◌+◌, ◌<◌, ◌≤◌, true, false, List, [], ◌∷◌, ◌++◌, Some, All, is_some, length, take, get_or, ap, sym, ◌∙◌, subst, arith, inl, inr}
-use Rattle.std.specs.Prelude.{Contains}
-use Rattle.std.specs.FinMap.{FinMap, get, insert}
+use Rattle.nw_model.proofs.Words.{◌≡◌, ◌↔◌, ◌⊎◌, ℕ, ◌+◌, ◌<◌, ◌≤◌, true, false, List, [], ◌∷◌, ◌++◌, Some, is_some, length, take, get_or, ap, sym, ◌∙◌, subst, arith, inl, inr, Contains, FinMap, get, insert, Contains-push, Contains-push_cases, Digest, Ref, Block, slot_cmp, which, is_absent}
+use Rattle.std.proofs.Common.{All}
 use Rattle.std.proofs.lemmas.List.{take_more}
-use Rattle.std.proofs.lemmas.List.Elements.{Contains-push, Contains-push_cases, Contains-append_left}
-use Rattle.nw_digest.specs.declared.digest.Digest.{Digest}
-use Rattle.nw_codec.specs.declared.block.Ref.{Ref}
-use Rattle.nw_codec.specs.declared.block.Block.{Block}
-use Rattle.nw_digest.specs.Order.{slot_cmp}
-use Rattle.nw_digest.proofs.Found.{which, is_absent}
+use Rattle.std.proofs.lemmas.List.Elements.{Contains-append_left}
 use Rattle.nw_model.specs.State.{block_slot}
 use Rattle.nw_model.specs.View.{Frozen, IsClosed, HasBlock, IsParentIn}
 use Rattle.nw_model.specs.Search.{IsUnderSlot, AreUnderSlots, IsFoundAt, IsNamed, IsParentOfAny, Finds}

@@ -1,11 +1,5 @@
 -- A slot with a first digest gets no vote from then on.
-use Rattle.std.proofs.Common.{◌≡◌, ◌⊎◌, ℕ, zero, suc, ◌≤◌, ◌<◌, inl, inr, arith, Bool, true, false, not, cond, List, [], ◌∷◌, Option, Some, IsSome, is_some, refl, ap, sym, subst}
-use Rattle.std.specs.Prelude.{nat_lt, nat_le, slice_get}
-use Rattle.std.specs.Ordering.{eq_by_cmp}
-use Rattle.std.specs.FinMap.{get, insert, get-insert, len}
-use Rattle.nw_digest.specs.declared.digest.Digest.{Digest}
-use Rattle.nw_codec.specs.declared.block.Block.{Block}
-use Rattle.nw_digest.specs.Order.{Slot, slot_cmp}
+use Rattle.nw_model.proofs.Words.{◌≡◌, ◌⊎◌, ℕ, zero, suc, ◌≤◌, ◌<◌, inl, inr, arith, Bool, true, false, not, cond, List, [], ◌∷◌, Option, Some, IsSome, is_some, refl, ap, sym, subst, nat_lt, nat_le, slice_get, eq_by_cmp, get, insert, get-insert, len, Digest, Block, Slot, slot_cmp, slots_total, is_there}
 use Rattle.nw_model.specs.State.{State, block_slot}
 use Rattle.nw_model.specs.Step.{Bounds, IsReply, after, after_write, after_certify, after_collect, raised, write_reply, certify_reply, collect_reply, other_first}
 use Rattle.nw_model.specs.History.{AreReplies}
@@ -20,8 +14,6 @@ use Rattle.nw_model.specs.declared.reply.CertifyReply.{CertifyReply}
 use Rattle.nw_model.specs.declared.reply.CertifyReply.TheVariants as certify
 use Rattle.nw_model.specs.declared.reply.CollectReply.{CollectReply}
 use Rattle.nw_model.specs.declared.reply.CollectReply.TheVariants as collect
-use Rattle.nw_digest.proofs.Maps.{slots_total}
-use Rattle.nw_digest.proofs.Found.{is_there}
 use Rattle.nw_model.proofs.Replayed.{past, past_found, is_stored, not_below}
 use Rattle.nw_model.proofs.Raised.{slot_is_kept}
 use Rattle.nw_model.proofs.Kept.{at_slot}

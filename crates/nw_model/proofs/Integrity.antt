@@ -1,15 +1,5 @@
 -- Two reads of a digest agree.
-use Rattle.std.proofs.Common.{◌≡◌, ◌≢◌, ◌⊎◌, ℕ, zero, suc, ◌<◌, ◌≤◌, Bool, true, false, List, [], ◌∷◌, Option, Some, refl, ap, sym, ◌∙◌, subst, arith, inl, inr}
-use Rattle.std.specs.Prelude.{nat_le, slice_get, All}
-use Rattle.std.specs.FinMap.{get}
-use Rattle.std.proofs.lemmas.List.Elements.{All-head, All-tail}
-use Rattle.std.proofs.lemmas.Option.{same_Some}
-use Rattle.nw_digest.specs.declared.digest.Digest.{Digest}
-use Rattle.nw_codec.specs.declared.block.Block.{Block}
-use Rattle.nw_codec.specs.declared.certificate.Certificate.{Certificate}
-use Rattle.nw_codec.specs.Same.{same_block}
-use Rattle.nw_committee.specs.declared.member.Member.{Member}
-use Rattle.nw_sig.specs.Signed.{Meaning}
+use Rattle.nw_model.proofs.Words.{◌≡◌, ◌≢◌, ◌⊎◌, ℕ, zero, suc, ◌<◌, ◌≤◌, Bool, true, false, List, [], ◌∷◌, Option, Some, refl, ap, sym, ◌∙◌, subst, arith, inl, inr, nat_le, slice_get, All, get, All-head, All-tail, same_Some, Digest, Block, Certificate, same_block, Member, Meaning}
 use Rattle.nw_model.specs.State.{State}
 use Rattle.nw_model.specs.Checks.{digest_of, IsWellFormed, IsValid}
 use Rattle.nw_model.specs.Sound.{IsSound}

@@ -1,20 +1,11 @@
 -- The invariant of a store with an index (IsSoundWithIndex), step by step.
-use Rattle.std.proofs.Common.{◌≡◌, ◌≤◌, Bool, true, false, not, List, [], ◌∷◌, Option, Some, None, cond, is_some, refl, ap, sym, ◌∙◌, subst, inl, inr, ◌⊎◌}
-use Rattle.std.specs.Prelude.{◌↔◌, Result, Ok, Err, OnOk, OnErr, ◌||◌, find}
+use Rattle.nw_model.proofs.Words.{◌≡◌, ◌≤◌, Bool, true, false, not, List, [], ◌∷◌, Option, Some, None, cond, is_some, refl, ap, sym, ◌∙◌, subst, inl, inr, ◌⊎◌, ◌||◌, Ordering, eq_by_cmp, eq_by_cmp_equiv, option_map_or, FinMap, get, insert, keys, contains_key-keys, get-empty, get-insert, Digest, Block, Certificate, digest_cmp, Slot, slot_cmp, digests_total, slots_total, slots_apart, tie, same_digest}
+use Rattle.std.specs.Prelude.{◌↔◌, Result, Ok, Err, OnOk, OnErr, find}
 use Rattle.std.specs.List.{list_any}
-use Rattle.std.specs.declared.cmp.Ordering.{Ordering}
-use Rattle.std.specs.Ordering.{eq_by_cmp}
-use Rattle.std.specs.Cmp.{eq_by_cmp_equiv}
-use Rattle.std.specs.Option.{option_map_or}
-use Rattle.std.specs.FinMap.{FinMap, empty, get, insert, keys, contains_key-keys, get-empty, get-insert}
-use Rattle.nw_digest.specs.declared.digest.Digest.{Digest}
-use Rattle.nw_codec.specs.declared.block.Block.{Block}
-use Rattle.nw_codec.specs.declared.certificate.Certificate.{Certificate}
-use Rattle.nw_digest.specs.Order.{digest_cmp, Slot, slot_cmp}
+use Rattle.std.specs.FinMap.{empty}
 use Rattle.nw_model.specs.State.{State, block_slot, certificate_slot}
 use Rattle.nw_model.specs.Step.{is_slot, has_other_slot, is_certified_for, certified_digest, with_block, with_certificate}
 use Rattle.nw_model.specs.Sound.{IsSound, IsIndex, IsSoundWithIndex}
-use Rattle.nw_digest.proofs.Maps.{digests_total, slots_total, slots_apart, tie, same_digest}
 use Rattle.nw_model.proofs.Sames.{same_slot_decides}
 
 -- ---- tests

@@ -1,3 +1,4 @@
+pub mod Words
 pub mod Kept
 pub mod WantedOrder
 pub mod Raised

@@ -1,19 +1,14 @@
 -- What looks tell: a state has one look at a slot, and one list of the looks at a round.
-use Rattle.std.proofs.Common.{◌≡◌, ◌↔◌, ◌+◌, Bool, true, false, Some, refl, sym, ◌∙◌, ap, subst, arith}
+use Rattle.nw_model.proofs.Words.{◌≡◌, ◌↔◌, ◌⊎◌, ℕ, ◌≤◌, inl, inr, length, None, Option, ◌+◌, Bool, true, false, Some, refl, sym, ◌∙◌, ap, subst, arith, option_map_or, get, Digest, Slot, which, is_there, Ref}
 use Rattle.std.specs.Prelude.{IsTrue}
-use Rattle.std.specs.Option.{option_map_or}
-use Rattle.std.specs.FinMap.{get}
-use Rattle.nw_digest.specs.declared.digest.Digest.{Digest}
-use Rattle.nw_digest.specs.Order.{Slot}
-use Rattle.nw_digest.proofs.Found.{which, is_there}
-use Rattle.nw_codec.specs.declared.block.Ref.{Ref}
 use Rattle.nw_model.specs.declared.look.Look.{Look}
 use Rattle.nw_model.specs.State.{State, block_slot}
 use Rattle.nw_model.specs.Sound.{IsSound}
 use Rattle.nw_model.specs.Paths.{IsComplete, IsSatisfied}
-use Rattle.nw_model.specs.Look.{IsLook, TellsSatisfied}
+use Rattle.nw_model.specs.Look.{AreMissed, HasDigest, IsLook, IsNewest, TellsSatisfied}
 use Rattle.nw_model.specs.Step.{is_held}
 use Rattle.nw_model.proofs.Kept.{certified_is}
+use Rattle.nw_model.proofs.OneReply.{one_missing_of}
 
 -- tests of the same fact are equal
 same_tests : {P : Type 0} (a b : Bool) → IsTrue a ↔ P → IsTrue b ↔ P → a ≡ b
@@ -21,6 +16,23 @@ same_tests true true one other = refl
 same_tests true false one other = sym (other.1 (one.0 refl))
 same_tests false true one other = one.1 (other.0 refl)
 same_tests false false one other = refl
+
+-- a round that has a digest, or is the garbage round, is not above the newest one
+not_above : (s : State) (a b : ℕ) → IsNewest s b → (a ≡ s.floor) ⊎ ((author : ℕ) × HasDigest s (a, author)) → a ≤ b
+not_above s a b is (inl floor) = subst (λ n. n ≤ b) (sym floor) is.floor
+not_above s a b is (inr (author, has)) = is.last (a, author) has
+
+-- so there is one newest round
+one_newest : (s : State) (a b : ℕ) → IsNewest s a → IsNewest s b → a ≡ b
+one_newest s a b one other =
+    let below : a ≤ b = not_above s a b other one.some in
+    let above : b ≤ a = not_above s b a one other.some in
+    omega arith
+
+-- and one count of missing parents
+one_count : (s : State) (found : Option Digest) (a b : ℕ) → AreMissed s found a → AreMissed s found b → a ≡ b
+one_count s None a b one other = one ∙ sym other
+one_count s (Some d) a b (here, is, count) (there, was, other) = count ∙ ap (λ missing. option_map_or length missing 0) (one_missing_of s d here there is was) ∙ sym other
 
 pub one_look : (s : State) (slot : Slot) (a b : Look) → IsLook s slot a → IsLook s slot b → a ≡ b
 one_look s slot a b one other =
@@ -31,7 +43,10 @@ one_look s slot a b one other =
     let complete : a.complete ≡ b.complete =
     same_tests {P = (d : Digest) × (b.certified ≡ Some d) × IsComplete s d} a.complete b.complete
     (subst (λ found. IsTrue a.complete ↔ ((d : Digest) × (found ≡ Some d) × IsComplete s d)) certified one.complete) other.complete in
-    λ i. record { floor = floor i; first = first i; certified = certified i; stands = stands i; complete = complete i }
+    let newest : a.newest ≡ b.newest = one_newest s a.newest b.newest one.newest other.newest in
+    let missing : a.missing ≡ b.missing =
+    one_count s b.first a.missing b.missing (subst (λ found. AreMissed s found a.missing) first one.missing) other.missing in
+    λ i. record { floor = floor i; newest = newest i; first = first i; missing = missing i; certified = certified i; stands = stands i; complete = complete i }
 
 -- in a sound state, a look tells which references of the next round are satisfied
 module _ (s : State) (sound : IsSound s) (slot : Slot) (look : Look) (is : IsLook s slot look) where

@@ -1,8 +1,5 @@
 -- Blocks with no missing parents.
-use Rattle.std.proofs.Common.{◌≡◌, ◌+◌, ◌-◌, ◌<◌, get_or, refl, subst, arith, inl, inr}
-use Rattle.std.specs.Prelude.{All}
-use Rattle.std.proofs.lemmas.List.Elements.{All-contains, Contains-get_or}
-use Rattle.nw_codec.specs.declared.block.Block.{Block}
+use Rattle.nw_model.proofs.Words.{◌≡◌, ◌+◌, ◌-◌, ◌<◌, get_or, refl, subst, arith, inl, inr, All, All-contains, Contains-get_or, Block, contains_none}
 use Rattle.nw_model.specs.declared.wanted.Wanted.{Wanted}
 use Rattle.nw_model.specs.State.{State}
 use Rattle.nw_model.specs.Paths.{IsSatisfied}
@@ -10,7 +7,7 @@ use Rattle.nw_model.specs.Missing.{Wants, wanted_cmp}
 use Rattle.nw_model.specs.Laws.{BlocksWithTheirParentsMissNone}
 use Rattle.nw_model.proofs.Complete.{one_block}
 use Rattle.nw_model.proofs.Contained.{decided_satisfied}
-use Rattle.nw_digest.proofs.Elements.{contains_none, ordered_none}
+use Rattle.nw_digest.proofs.Elements.{ordered_none}
 
 -- a block that wants no parent has all its references satisfied
 all_satisfied : (s : State) (b : Block) → ((w : Wanted) → Wants s b w → ⊥) → s.floor < b.round → All (IsSatisfied s b.round) b.parents

@@ -1,16 +1,10 @@
 -- Each call has one reply.
-use Rattle.std.proofs.Common.{◌≡◌, ◌⊎◌, ℕ, List, length, Option, Some, None, refl, ap, sym, ◌∙◌, subst, inl, inr}
+use Rattle.nw_model.proofs.Words.{◌≡◌, ◌⊎◌, ℕ, List, length, Option, Some, None, refl, ap, sym, ◌∙◌, subst, inl, inr, IsTotalOrder, Ordering, get, Digest, Block, Certificate, digests_total, is_there}
 use Rattle.std.specs.Prelude.{take}
-use Rattle.std.specs.Cmp.{IsTotalOrder}
-use Rattle.std.specs.declared.cmp.Ordering.{Ordering}
-use Rattle.std.specs.FinMap.{get}
 use Rattle.nw_model.proofs.WantedOrder.{wanted_total}
 use Rattle.nw_model.specs.declared.wanted.Wanted.{Wanted}
 use Rattle.nw_model.specs.Missing.{IsWanted, Wants, ListsExactly, HasCount, AreFirstWanted, AreMissingOf, AreCounts, wanted_cmp}
 use Rattle.nw_model.specs.declared.reply.Counts.{Counts}
-use Rattle.nw_digest.specs.declared.digest.Digest.{Digest}
-use Rattle.nw_codec.specs.declared.block.Block.{Block}
-use Rattle.nw_codec.specs.declared.certificate.Certificate.{Certificate}
 use Rattle.nw_model.specs.State.{State}
 use Rattle.nw_model.specs.Paths.{IsAncestor, IsComplete, IsCausalList}
 use Rattle.nw_codec.specs.declared.subject.Subject.{Subject}
@@ -20,8 +14,7 @@ use Rattle.nw_model.specs.declared.reply.CausalReply.{CausalReply}
 use Rattle.nw_model.specs.declared.reply.CausalReply.TheVariants as causal
 use Rattle.nw_model.specs.declared.reply.Reply.{Reply}
 use Rattle.nw_model.specs.declared.reply.Reply.TheVariants as reply
-use Rattle.nw_digest.proofs.Maps.{digests_total}
-use Rattle.nw_digest.proofs.Found.{not_there, is_there}
+use Rattle.nw_digest.proofs.Found.{not_there}
 use Rattle.nw_model.proofs.Complete.{one_block}
 use Rattle.nw_model.proofs.Listed.{same_lists, same_in_order}
 
@@ -135,7 +128,7 @@ same_missing bounds s most one other is was =
     here.2 ∙ ap reply.Missing first ∙ sym there.2
 
 -- and so are the missing parents of a block
-one_missing_of : (s : State) (d : Digest) (one other : Option (List Wanted)) → AreMissingOf s d one → AreMissingOf s d other → one ≡ other
+pub one_missing_of : (s : State) (d : Digest) (one other : Option (List Wanted)) → AreMissingOf s d one → AreMissingOf s d other → one ≡ other
 one_missing_of s d None None is was = refl
 one_missing_of s d None (Some there) is (c, at, exact) = absurd (not_there (get s.blocks d) is (is_there (get s.blocks d) c at))
 one_missing_of s d (Some here) None (b, at, exact) was = absurd (not_there (get s.blocks d) was (is_there (get s.blocks d) b at))

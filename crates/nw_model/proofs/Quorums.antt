@@ -1,19 +1,10 @@
 -- The authors in a causal list reach the quorum in each round.
-use Rattle.std.proofs.Common.{◌≡◌, ℕ, zero, suc, ◌+◌, ◌-◌, ◌<◌, ◌≤◌, Bool, true, false, cond, List, [], ◌∷◌, Some, map, refl, sym, ◌∙◌, subst, arith, inl, inr}
-use Rattle.std.specs.Prelude.{Contains, filter, ◌==◌, ◌||◌}
+use Rattle.nw_model.proofs.Words.{◌≡◌, ℕ, zero, suc, ◌+◌, ◌-◌, ◌<◌, ◌≤◌, Bool, true, false, cond, List, [], ◌∷◌, Some, map, refl, sym, ◌∙◌, subst, arith, inl, inr, Contains, filter, ◌==◌, ◌||◌, get, All-contains, Digest, contains_first, contains_later, contains_cases, contains_none, contains_filter, Ref, Block, Member, Meaning}
 use Rattle.std.specs.List.{sum_by, enumerate_from}
-use Rattle.std.specs.FinMap.{get}
-use Rattle.std.proofs.lemmas.List.Elements.{All-contains}
 use Rattle.std.proofs.lemmas.List.Sums.{sum_by-cons}
-use Rattle.nw_digest.specs.declared.digest.Digest.{Digest}
-use Rattle.nw_digest.proofs.Elements.{contains_first, contains_later, contains_cases, contains_none, contains_filter}
 use Rattle.nw_codec.specs.Fits.{authors}
-use Rattle.nw_codec.specs.declared.block.Ref.{Ref}
-use Rattle.nw_codec.specs.declared.block.Block.{Block}
 use Rattle.nw_committee.specs.Committee.{ReachesQuorum, is_listed, listed_weight}
-use Rattle.nw_committee.specs.declared.member.Member.{Member}
 use Rattle.nw_committee.proofs.Listed.{weight_where, listed_weight-none}
-use Rattle.nw_sig.specs.Signed.{Meaning}
 use Rattle.nw_model.specs.State.{State}
 use Rattle.nw_model.specs.Paths.{IsStanding, IsSatisfied, IsAncestor, IsComplete, IsCausalList}
 use Rattle.nw_model.specs.Laws.{authors_in, CausalListsReachQuorums}

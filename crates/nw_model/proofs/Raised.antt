@@ -1,23 +1,13 @@
 -- The entries that a collection keeps.
-use Rattle.std.proofs.Common.{◌≡◌, ℕ, ◌≤◌, Bool, true, false, cond, List, filter, Option, Some, None, refl, ap, sym, ◌∙◌, subst, arith}
-use Rattle.std.specs.Prelude.{nat_le}
-use Rattle.std.specs.Option.{option_map_or}
-use Rattle.std.specs.Cmp.{eq_by_cmp_equiv}
+use Rattle.nw_model.proofs.Words.{◌≡◌, ℕ, ◌≤◌, Bool, true, false, cond, List, Option, Some, None, refl, ap, sym, ◌∙◌, subst, arith, nat_le, option_map_or, eq_by_cmp_equiv, keys_of, is_at, FinMap, get, from_entries, IsDistinct-from_sorted, none-some, same_Some, Digest, Block, Certificate, digest_cmp, Slot, slot_cmp, digests_total, digests_apart, slots_total, slots_apart, get_lookup, tie}
+use Rattle.std.proofs.Common.{filter}
 use Rattle.std.specs.List.Sorted.{IsStrictlySortedBy}
-use Rattle.std.specs.Map.{lookup, keys_of}
-use Rattle.std.specs.BTreeMap.{is_at}
-use Rattle.std.specs.FinMap.{FinMap, get, retain_keys, from_entries, get-retain_keys, same_map}
+use Rattle.std.specs.Map.{lookup}
+use Rattle.std.specs.FinMap.{retain_keys, get-retain_keys, same_map}
 use Rattle.std.proofs.lemmas.Map.Entries.{option_filter, lookup-filter-keys, lookup-filter-values}
-use Rattle.std.proofs.lemmas.Map.Keys.{IsDistinct-from_sorted}
-use Rattle.std.proofs.lemmas.Option.{none-some, same_Some}
-use Rattle.nw_digest.specs.declared.digest.Digest.{Digest}
-use Rattle.nw_codec.specs.declared.block.Block.{Block}
-use Rattle.nw_codec.specs.declared.certificate.Certificate.{Certificate}
-use Rattle.nw_digest.specs.Order.{digest_cmp, Slot, slot_cmp}
 use Rattle.nw_model.specs.State.{State}
 use Rattle.nw_model.specs.Step.{from_round, raised}
 use Rattle.nw_model.specs.Sound.{IsSound, IsSoundWithIndex}
-use Rattle.nw_digest.proofs.Maps.{digests_total, digests_apart, slots_total, slots_apart, get_lookup, tie}
 
 low : (a b : ℕ) → nat_le a b ≡ true → a ≤ b
 low a b e = grind arith

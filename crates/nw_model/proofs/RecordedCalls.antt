@@ -1,11 +1,6 @@
 -- A call and the one that a history records take the same step.
-use Rattle.std.proofs.Common.{◌≡◌, ◌≢◌, Bool, true, false, cond, Option, Some, None, refl, ap, sym, ◌∙◌}
+use Rattle.nw_model.proofs.Words.{◌≡◌, ◌≢◌, Bool, true, false, cond, Option, Some, None, refl, ap, sym, ◌∙◌, option_map_or, get, Digest, Block, Certificate}
 use Rattle.std.specs.Prelude.{is_some}
-use Rattle.std.specs.Option.{option_map_or}
-use Rattle.std.specs.FinMap.{get}
-use Rattle.nw_digest.specs.declared.digest.Digest.{Digest}
-use Rattle.nw_codec.specs.declared.block.Block.{Block}
-use Rattle.nw_codec.specs.declared.certificate.Certificate.{Certificate}
 use Rattle.nw_codec.specs.Subject.{block_subject, certificate_subject}
 use Rattle.nw_model.specs.State.{State}
 use Rattle.nw_model.specs.Step.{Bounds, IsReply, RecordedCallsTakeTheSameStep, after, after_write, after_certify, write_reply, certify_reply, asked_write_reply, new_write_reply, is_collected, is_too_far, is_held, is_held_block}

@@ -1,15 +1,8 @@
 -- A legal history leaves a sound state.
-use Rattle.std.proofs.Common.{◌≡◌, ℕ, ◌≤◌, Bool, true, false, cond, List, [], ◌∷◌, Option, Some, None, refl, ap, sym, subst, arith}
-use Rattle.std.specs.Prelude.{nat_lt}
-use Rattle.std.specs.Option.{option_map_or}
-use Rattle.std.specs.FinMap.{get}
-use Rattle.nw_digest.specs.declared.digest.Digest.{Digest}
-use Rattle.nw_codec.specs.declared.block.Block.{Block}
-use Rattle.nw_codec.specs.declared.certificate.Certificate.{Certificate}
+use Rattle.nw_model.proofs.Words.{◌≡◌, ℕ, ◌≤◌, Bool, true, false, cond, List, [], ◌∷◌, Option, Some, None, refl, ap, sym, subst, arith, nat_lt, option_map_or, get, Digest, Block, Certificate, Meaning}
 use Rattle.nw_model.specs.State.{State, block_slot, certificate_slot, opening}
 use Rattle.nw_model.specs.Sound.{IsSound}
 use Rattle.nw_model.specs.Step.{Bounds, after, after_write, after_certify, write_reply, certify_reply, after_collect, collect_reply, has_other_slot, certified_digest}
-use Rattle.nw_sig.specs.Signed.{Meaning}
 use Rattle.nw_model.specs.History.{Terms, IsBase, replay}
 use Rattle.nw_model.specs.Laws.{LegalHistoriesLeaveSoundStates}
 use Rattle.nw_model.specs.declared.call.Call.{Call}

@@ -1,24 +1,16 @@
 -- `==` decides equality of blocks, certificates and ordered maps of them.
-use Rattle.std.specs.Prelude.{◌==◌}
-use Rattle.std.proofs.Common.{◌≡◌, ◌∙◌, ◌&&◌, ℕ, Bool, false, nat_eq, List, length, ap, sym}
-use Rattle.std.specs.declared.cmp.Ordering.{Ordering}
-use Rattle.std.specs.Cmp.{IsTotalOrder}
+use Rattle.nw_model.proofs.Words.{◌==◌, ◌≡◌, ◌∙◌, ℕ, Bool, false, nat_eq, List, length, ap, sym, Ordering, IsTotalOrder, IsAntisymmetric, from_entries, get, len, Digest, Ref, Block, Certificate, same_block, digest_cmp, Slot, slot_cmp, get_lookup}
+use Rattle.std.proofs.Common.{◌&&◌}
 use Rattle.std.specs.BTreeMap.{BTreeMap, IsOrdered}
-use Rattle.std.specs.FinMap.{IsAntisymmetric, from_entries, get, len, len-empty, empty_of_len}
+use Rattle.std.specs.FinMap.{len-empty, empty_of_len}
 use Rattle.std.specs.Bool.{Decides}
 use Rattle.std.specs.Cmp.Lexicographic.{pointwise, pointwise_decides, bytes_decides}
 use Rattle.std.proofs.lemmas.Bool.Decides.{Decides-eqb, Decides-and}
 use Rattle.std.proofs.lemmas.Map.Lookups.{btree_map_eq-Decides, btree_map_from_get}
-use Rattle.nw_digest.specs.declared.digest.Digest.{Digest}
-use Rattle.nw_codec.specs.declared.block.Ref.{Ref}
-use Rattle.nw_codec.specs.declared.block.Block.{Block}
 use Rattle.nw_codec.specs.declared.certificate.Seal.{Seal}
-use Rattle.nw_codec.specs.declared.certificate.Certificate.{Certificate}
-use Rattle.nw_codec.specs.Same.{same_bytes, same_ref, same_block}
-use Rattle.nw_digest.specs.Order.{digest_cmp, Slot, slot_cmp}
+use Rattle.nw_codec.specs.Same.{same_bytes, same_ref}
 use Rattle.nw_model.specs.State.{State, opening}
 use Rattle.nw_model.specs.Step.{is_slot, is_digest}
-use Rattle.nw_digest.proofs.Maps.{get_lookup}
 
 -- a test that decides one statement decides each equivalent statement
 by_parts : {P Q : Type 0} (r : Bool) → (P → Q) → (Q → P) → Decides r P → Decides r Q

@@ -1,15 +1,6 @@
 -- A causal list stays, except for the rounds below a later garbage round.
-use Rattle.std.proofs.Common.{◌≡◌, ℕ, ◌+◌, ◌<◌, ◌≤◌, Bool, true, false, cond, List, [], ◌∷◌, Some, get_or, map, refl, ap, sym, ◌∙◌, subst, arith}
-use Rattle.std.specs.Prelude.{Contains, filter, nat_le}
-use Rattle.std.specs.Option.{option_map_or}
-use Rattle.std.specs.FinMap.{get}
-use Rattle.std.proofs.lemmas.List.Elements.{All-contains}
+use Rattle.nw_model.proofs.Words.{◌≡◌, ℕ, ◌+◌, ◌<◌, ◌≤◌, Bool, true, false, cond, List, [], ◌∷◌, Some, get_or, map, refl, ap, sym, ◌∙◌, subst, arith, Contains, filter, nat_le, option_map_or, get, All-contains, Digest, which, is_there, contains_filter, Ref, Block}
 use Rattle.std.proofs.lemmas.List.Kept.{IsStrictlySortedBy-filter}
-use Rattle.nw_digest.specs.declared.digest.Digest.{Digest}
-use Rattle.nw_digest.proofs.Found.{which, is_there}
-use Rattle.nw_digest.proofs.Elements.{contains_filter}
-use Rattle.nw_codec.specs.declared.block.Ref.{Ref}
-use Rattle.nw_codec.specs.declared.block.Block.{Block}
 use Rattle.nw_model.specs.State.{State, block_slot, certificate_slot}
 use Rattle.nw_model.specs.Paths.{block_cmp, IsStanding, IsSatisfied, IsParent, IsPath, IsAncestor, IsComplete, IsCausalList}
 use Rattle.nw_model.specs.Sound.{IsSound}

@@ -1,16 +1,11 @@
 -- A view has the ancestors of the state that it shows.
-use Rattle.std.proofs.Common.{◌≡◌, ◌+◌, ◌<◌, ◌≤◌, List, [], ◌∷◌, Some, sym, ◌∙◌, subst, arith}
-use Rattle.std.specs.FinMap.{get}
-use Rattle.std.proofs.lemmas.List.Elements.{All-contains}
-use Rattle.nw_digest.specs.declared.digest.Digest.{Digest}
-use Rattle.nw_codec.specs.declared.block.Block.{Block}
+use Rattle.nw_model.proofs.Words.{◌≡◌, ◌+◌, ◌<◌, ◌≤◌, List, [], ◌∷◌, Some, sym, ◌∙◌, subst, arith, get, All-contains, Digest, Block, same_map}
 use Rattle.nw_model.specs.State.{State}
 use Rattle.nw_model.specs.Paths.{IsStanding, IsSatisfied, IsParent, IsPath, IsComplete, IsCausalList}
 use Rattle.nw_model.specs.Sound.{HasNoBlocksBelowFloor}
 use Rattle.nw_model.specs.View.{Frozen, HasBlock, IsParentIn, IsPathIn, IsAncestorIn, IsWalk, Shows}
 use Rattle.nw_model.specs.Laws.{ViewsShowTheAncestors}
 use Rattle.nw_model.proofs.Complete.{parent_complete, parents_complete}
-use Rattle.nw_digest.proofs.Elements.{same_map}
 
 -- each block of the view is held in the state
 pub there_held : (v : Frozen) (s : State) (d : Digest) (b : Block) → Shows v s → HasBlock v d b → get s.blocks d ≡ Some b

@@ -1,27 +1,17 @@
 -- The blocks of the found digests, in the order of their slots.
-use Rattle.std.proofs.Common.{◌≡◌, ℕ, ◌<◌, List, [], ◌∷◌, Some, All, length, get_or, map, refl, ap, sym, ◌∙◌, subst, arith, inl, inr, ◌++◌, Bor}
-use Rattle.std.specs.Prelude.{Contains}
-use Rattle.std.specs.declared.cmp.Ordering.TheVariants.{Less}
-use Rattle.std.specs.Cmp.{eq_by_cmp_equiv}
-use Rattle.std.specs.List.{AllByRecursion, slice_get}
+use Rattle.nw_model.proofs.Words.{◌≡◌, ℕ, ◌<◌, List, [], ◌∷◌, Some, length, get_or, map, refl, ap, sym, ◌∙◌, subst, arith, inl, inr, ◌++◌, Contains, Less, eq_by_cmp_equiv, AllByRecursion, keys_of, is_at, get, from_entries, recursion_from_All, IsDistinct-from_sorted, none-some, same_Some, Digest, Block, Slot, slot_cmp, get_lookup, slots_total}
+use Rattle.std.proofs.Common.{All, Bor}
+use Rattle.std.specs.List.{slice_get}
 use Rattle.std.specs.List.Sorted.{IsStrictlySortedBy}
-use Rattle.std.specs.Map.{keys_of, values_of}
-use Rattle.std.specs.BTreeMap.{is_at}
+use Rattle.std.specs.Map.{values_of}
 use Rattle.std.specs.Map.Iter.{deref}
-use Rattle.std.specs.FinMap.{get, from_entries}
 use Rattle.std.proofs.lemmas.List.{get_or-map, map-append}
-use Rattle.std.proofs.lemmas.List.Elements.{recursion_from_All}
-use Rattle.std.proofs.lemmas.Map.Keys.{IsDistinct-from_sorted}
 use Rattle.std.proofs.lemmas.Map.Entries.{lookup_from_place, place_from_lookup, length-values_of}
-use Rattle.std.proofs.lemmas.Option.{slice_get-get_or, get_or_from_slice_get, slice_get_cases, none-some, same_Some}
-use Rattle.nw_digest.specs.declared.digest.Digest.{Digest}
-use Rattle.nw_codec.specs.declared.block.Block.{Block}
-use Rattle.nw_digest.specs.Order.{Slot, slot_cmp}
+use Rattle.std.proofs.lemmas.Option.{slice_get-get_or, get_or_from_slice_get, slice_get_cases}
 use Rattle.nw_model.specs.State.{block_slot}
 use Rattle.nw_model.specs.Paths.{block_cmp}
 use Rattle.nw_model.specs.View.{Frozen, IsWalk}
 use Rattle.nw_model.specs.Search.{IsUnderSlot, FindsAncestors}
-use Rattle.nw_digest.proofs.Maps.{get_lookup, slots_total}
 
 -- ---- entries in order
 

@@ -1,15 +1,10 @@
 -- The order of wanted parents.
-use Rattle.std.proofs.Common.{◌≡◌, ℕ, true, ap}
-use Rattle.std.specs.Cmp.{IsTotalOrder}
-use Rattle.std.specs.FinMap.{IsAntisymmetric}
-use Rattle.std.specs.Ordering.{nat_cmp, eq_by_cmp, ordering_then}
-use Rattle.std.proofs.lemmas.Cmp.{on_total, then_total, nat_cmp_total}
+use Rattle.nw_model.proofs.Words.{◌≡◌, ℕ, true, ap, IsTotalOrder, IsAntisymmetric, nat_cmp, eq_by_cmp, on_total, Digest, digest_cmp, digests_apart, digests_total, tie}
+use Rattle.std.specs.Ordering.{ordering_then}
+use Rattle.std.proofs.lemmas.Cmp.{then_total, nat_cmp_total}
 use Rattle.std.proofs.lemmas.Map.Lookups.{exact_unsigned, exact_pairs}
-use Rattle.nw_digest.specs.declared.digest.Digest.{Digest}
-use Rattle.nw_digest.specs.Order.{digest_cmp}
 use Rattle.nw_model.specs.declared.wanted.Wanted.{Wanted}
 use Rattle.nw_model.specs.Missing.{wanted_cmp}
-use Rattle.nw_digest.proofs.Maps.{digests_apart, digests_total, tie}
 
 pub wanted_total : IsTotalOrder wanted_cmp
 wanted_total = then_total (on_total (λ (w : Wanted). w.round) nat_cmp_total) (then_total (on_total (λ (w : Wanted). w.author) nat_cmp_total) (on_total (λ (w : Wanted). w.digest) digests_total))

@@ -1,17 +1,10 @@
 -- The maps of a store after a collection.
-use Rattle.std.proofs.Common.{◌≡◌, ℕ, List, filter, ap, sym, ◌∙◌, subst}
+use Rattle.nw_plain.proofs.Words.{◌≡◌, ℕ, List, filter, ap, sym, ◌∙◌, subst, keys_of, from_entries, Digest, Block, Certificate, digest_cmp, Slot, slot_cmp, State, filtered_round}
 use Rattle.std.specs.Prelude.{nat_le}
 use Rattle.std.specs.List.Sorted.{IsStrictlySortedBy}
-use Rattle.std.specs.Map.{keys_of}
-use Rattle.std.specs.FinMap.{from_entries}
-use Rattle.nw_digest.specs.declared.digest.Digest.{Digest}
-use Rattle.nw_codec.specs.declared.block.Block.{Block}
-use Rattle.nw_codec.specs.declared.certificate.Certificate.{Certificate}
-use Rattle.nw_digest.specs.Order.{digest_cmp, Slot, slot_cmp}
-use Rattle.nw_model.specs.State.{State}
 use Rattle.nw_model.specs.Step.{raised}
 use Rattle.nw_model.specs.Sound.{IsSoundWithIndex}
-use Rattle.nw_model.proofs.Raised.{filtered_round, filtered_slots, kept_raised, slots_from}
+use Rattle.nw_model.proofs.Raised.{filtered_slots, kept_raised, slots_from}
 
 -- the state of these entries
 abbrev pub state_of : List (Digest × Block) → List (Digest × Certificate) → List (Slot × Digest) → ℕ → State

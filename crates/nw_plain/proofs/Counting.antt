@@ -1,21 +1,10 @@
 -- The number of complete blocks.
-use Rattle.std.proofs.Common.{List, length, sym, ◌∙◌}
+use Rattle.nw_plain.proofs.Words.{List, length, sym, ◌∙◌, lookup, keys_of, is_at, eq_by_cmp_equiv, from_entries, Digest, Block, digest_cmp, State, IsComplete, AreComplete, digests_total, get_lookup, same_digest, which}
 use Rattle.std.specs.List.Sorted.{IsStrictlySortedBy}
-use Rattle.std.specs.Map.{lookup, keys_of}
-use Rattle.std.specs.BTreeMap.{is_at}
-use Rattle.std.specs.Cmp.{eq_by_cmp_equiv}
-use Rattle.std.specs.FinMap.{from_entries}
 use Rattle.std.proofs.lemmas.List.{length-map}
 use Rattle.std.proofs.lemmas.Map.Views.{IsSome-lookup_from_Contains, Contains-keys_from_lookup}
-use Rattle.nw_digest.specs.declared.digest.Digest.{Digest}
-use Rattle.nw_codec.specs.declared.block.Block.{Block}
-use Rattle.nw_digest.specs.Order.{digest_cmp}
-use Rattle.nw_model.specs.State.{State}
-use Rattle.nw_model.specs.Paths.{IsComplete}
-use Rattle.nw_model.specs.View.{AreComplete}
 use Rattle.nw_model.specs.Missing.{HasCount}
-use Rattle.nw_digest.proofs.Maps.{digests_total, get_lookup, same_digest}
-use Rattle.nw_digest.proofs.Found.{which, is_there}
+use Rattle.nw_digest.proofs.Found.{is_there}
 
 -- the number of entries is the number of complete blocks, if they are exactly these
 pub complete_count : (s : State) (es : List (Digest × Block)) → IsStrictlySortedBy digest_cmp (keys_of es) → AreComplete s (from_entries es) → HasCount digest_cmp (IsComplete s) (length es)

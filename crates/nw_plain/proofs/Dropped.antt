@@ -1,19 +1,10 @@
 -- The number of blocks that a collection drops.
-use Rattle.std.proofs.Common.{◌≡◌, ℕ, suc, ◌+◌, ◌-◌, Bool, true, false, not, cond, List, [], ◌∷◌, filter, length, refl, ap, sym, ◌∙◌, arith}
+use Rattle.nw_plain.proofs.Words.{◌≡◌, ℕ, ◌+◌, Bool, true, false, cond, List, [], ◌∷◌, filter, length, refl, ap, sym, ◌∙◌, arith, Ordering, Less, AllByRecursion, keys_of, values_of, from_entries, len, sorted_head, sorted_tail, Digest, digest_cmp, digests_total, len_sorted, filtered_round}
+use Rattle.std.proofs.Common.{suc, ◌-◌, not}
 use Rattle.std.specs.Prelude.{nat_le, nat_lt}
-use Rattle.std.specs.declared.cmp.Ordering.{Ordering}
-use Rattle.std.specs.declared.cmp.Ordering.TheVariants.{Less}
-use Rattle.std.specs.List.{AllByRecursion}
 use Rattle.std.specs.List.Sorted.{IsStrictlySortedBy}
-use Rattle.std.specs.Map.{keys_of, values_of}
-use Rattle.std.specs.FinMap.{from_entries, len}
 use Rattle.std.proofs.lemmas.List.Filters.{length-filter_both}
-use Rattle.std.proofs.lemmas.Map.Keys.{sorted_head, sorted_tail}
-use Rattle.nw_digest.specs.declared.digest.Digest.{Digest}
-use Rattle.nw_digest.specs.Order.{digest_cmp}
 use Rattle.nw_model.specs.Step.{from_round}
-use Rattle.nw_digest.proofs.Maps.{digests_total, len_sorted}
-use Rattle.nw_model.proofs.Raised.{filtered_round}
 
 pub sorted_cons : {K : Type 0} (R : K → K → Ordering) (x : K) (xs : List K) → AllByRecursion (λ y. R x y ≡ Less) xs → IsStrictlySortedBy R xs → IsStrictlySortedBy R (x ∷ xs)
 unfolding IsStrictlySortedBy

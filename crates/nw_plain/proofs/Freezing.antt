@@ -1,28 +1,16 @@
 -- Finding the complete blocks, slot by slot.
-use Rattle.std.proofs.Common.{◌≡◌, ◌↔◌, ◌⊎◌, ℕ, ◌+◌, Bool, true, false, List, [], ◌∷◌, Some, None, IsSome, cond, get_or, refl, ap, sym, ◌∙◌, subst, arith, inl, inr}
-use Rattle.std.specs.declared.cmp.Ordering.TheVariants.{Less}
+use Rattle.nw_plain.proofs.Words.{◌≡◌, ◌↔◌, ◌⊎◌, ℕ, ◌+◌, Bool, true, false, List, [], ◌∷◌, Some, None, IsSome, cond, get_or, refl, ap, sym, ◌∙◌, subst, arith, inl, inr, Less, eq_by_cmp_equiv, AllByRecursion, FinMap, get, insert, from_entries, lookup, keys_of, is_at, sorted_head, sorted_tail, Digest, Block, Certificate, digest_cmp, Slot, slot_cmp, State, block_slot, certificate_slot, IsComplete, IsSound, IsCompletedBy, AreComplete, get_lookup, digests_total, slots_total, slots_apart, same_digest, which, none-some}
 use Rattle.std.specs.Ordering.{eq_by_cmp, nat_cmp, ordering_then}
-use Rattle.std.specs.Cmp.{eq_by_cmp_equiv, nat_cmp_is}
-use Rattle.std.specs.List.{AllByRecursion}
+use Rattle.std.specs.Cmp.{nat_cmp_is}
 use Rattle.std.specs.List.Sorted.{IsStrictlySortedBy}
-use Rattle.std.specs.FinMap.{FinMap, get, insert, empty, from_entries, get-empty, get-insert}
-use Rattle.std.specs.Map.{lookup, keys_of}
-use Rattle.std.specs.BTreeMap.{is_at}
-use Rattle.std.proofs.lemmas.Map.Keys.{sorted_head, sorted_tail}
-use Rattle.nw_digest.specs.declared.digest.Digest.{Digest}
-use Rattle.nw_codec.specs.declared.block.Block.{Block}
-use Rattle.nw_codec.specs.declared.certificate.Certificate.{Certificate}
-use Rattle.nw_digest.specs.Order.{digest_cmp, Slot, slot_cmp}
-use Rattle.nw_model.specs.State.{State, block_slot, certificate_slot}
-use Rattle.nw_model.specs.Paths.{IsStanding, IsComplete}
-use Rattle.nw_model.specs.Sound.{IsSound, IsIndex}
-use Rattle.nw_model.specs.View.{IsCompletedBy, AddsIfComplete, AreComplete}
-use Rattle.nw_digest.proofs.Maps.{find_lookup, find_below, get_lookup, digests_total, slots_total, slots_apart, same_digest, tie}
-use Rattle.nw_digest.proofs.Found.{which}
+use Rattle.std.specs.FinMap.{empty, get-empty, get-insert}
+use Rattle.nw_model.specs.Paths.{IsStanding}
+use Rattle.nw_model.specs.Sound.{IsIndex}
+use Rattle.nw_model.specs.View.{AddsIfComplete}
+use Rattle.nw_digest.proofs.Maps.{find_lookup, find_below, tie}
 use Rattle.nw_model.proofs.Kept.{after_insert, at_insert}
 use Rattle.nw_model.proofs.Complete.{one_block, complete_from_parents, parents_complete}
 use Rattle.std.proofs.lemmas.Bool.{cases_lt}
-use Rattle.std.proofs.lemmas.Option.{none-some}
 
 -- some slots are left, in order, and the complete blocks of the other slots are found
 pub record SoFar (s : State) (left : List (Slot × Digest)) (complete : FinMap digest_cmp Block) : Type 0 where

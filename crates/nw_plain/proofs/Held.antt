@@ -1,11 +1,5 @@
 -- The state after one more block or certificate.
-use Rattle.std.proofs.Common.{◌≡◌, true, false}
-use Rattle.std.specs.FinMap.{FinMap, insert}
-use Rattle.nw_digest.specs.declared.digest.Digest.{Digest}
-use Rattle.nw_codec.specs.declared.block.Block.{Block}
-use Rattle.nw_codec.specs.declared.certificate.Certificate.{Certificate}
-use Rattle.nw_digest.specs.Order.{digest_cmp, slot_cmp}
-use Rattle.nw_model.specs.State.{State, block_slot}
+use Rattle.nw_plain.proofs.Words.{◌≡◌, true, false, FinMap, insert, Digest, Block, Certificate, digest_cmp, slot_cmp, State, block_slot}
 use Rattle.nw_model.specs.Step.{with_block, with_certificate}
 
 pub held : (s : State) (blocks : FinMap digest_cmp Block) (d : Digest) (b : Block) → blocks ≡ insert s.blocks d b → record s { blocks = blocks } ≡ with_block s d b false

@@ -1,30 +1,21 @@
 -- The wanted parents that the references of blocks add.
-use Rattle.std.proofs.Common.{◌≡◌, ◌↔◌, ◌⊎◌, ℕ, ◌+◌, ◌<◌, List, [], ◌∷◌, ◌++◌, take, length, get_or, Some, refl, ap, sym, ◌∙◌, subst, arith, inl, inr}
+use Rattle.nw_plain.proofs.Words.{◌≡◌, ◌↔◌, ◌⊎◌, ℕ, ◌+◌, List, [], ◌∷◌, take, length, get_or, Some, refl, ap, sym, ◌∙◌, subst, arith, inl, inr, Ordering, Less, from_entries, get, lookup, keys_of, values_of, is_at, eq_by_cmp_equiv, Digest, Ref, Block, digest_cmp, State, ListsExactly, Wants, wanted_cmp, digests_total, get_lookup, same_digest}
+use Rattle.std.proofs.Common.{◌<◌, ◌++◌}
 use Rattle.std.specs.Prelude.{Contains}
-use Rattle.std.specs.declared.cmp.Ordering.{Ordering}
-use Rattle.std.specs.declared.cmp.Ordering.TheVariants.{Less, Equal, Greater}
+use Rattle.std.specs.declared.cmp.Ordering.TheVariants.{Equal, Greater}
 use Rattle.std.specs.Ordering.{match_ordering}
 use Rattle.std.specs.BTreeSet.{insert_key}
-use Rattle.std.specs.FinMap.{IsAntisymmetric, from_entries, get}
+use Rattle.std.specs.FinMap.{IsAntisymmetric}
 use Rattle.std.specs.List.Sorted.{IsStrictlySortedBy}
-use Rattle.std.specs.Map.{lookup, keys_of, values_of}
-use Rattle.std.specs.BTreeMap.{is_at}
-use Rattle.std.specs.Cmp.{eq_by_cmp_equiv}
 use Rattle.std.proofs.lemmas.Map.Keys.{IsDistinct-from_sorted}
 use Rattle.std.proofs.lemmas.Map.Made.{Contains-values_of, Contains-from_values_of}
 use Rattle.std.proofs.lemmas.Map.Views.{Contains-from_lookup, lookup-from_Contains}
 use Rattle.std.proofs.lemmas.List.{take_more, append_assoc, append-nil, map-append}
 use Rattle.std.proofs.lemmas.List.Elements.{Contains-append_left, Contains-append_right, Contains-append_cases}
-use Rattle.nw_digest.specs.declared.digest.Digest.{Digest}
-use Rattle.nw_codec.specs.declared.block.Ref.{Ref}
-use Rattle.nw_codec.specs.declared.block.Block.{Block}
 use Rattle.nw_model.specs.declared.wanted.Wanted.{Wanted}
 use Rattle.nw_model.proofs.WantedOrder.{wanted_apart}
-use Rattle.nw_digest.specs.Order.{digest_cmp}
-use Rattle.nw_model.specs.State.{State}
 use Rattle.nw_model.specs.Paths.{IsSatisfied}
-use Rattle.nw_model.specs.Missing.{ListsExactly, IsNamedBy, IsWanted, Wants, wanted_cmp}
-use Rattle.nw_digest.proofs.Maps.{digests_total, get_lookup, same_digest}
+use Rattle.nw_model.specs.Missing.{IsNamedBy, IsWanted}
 use Rattle.nw_digest.proofs.Elements.{contains_first, contains_later, contains_cases, contains_none}
 use Rattle.nw_plain.specs.Added.{IsUnionWith, NamesMissing}
 

@@ -12,7 +12,6 @@ mod causal;
 mod certificates;
 mod collection;
 mod copies;
-mod looks;
 mod maps;
 mod missing;
 mod sameness;

@@ -6,11 +6,12 @@ ghost use Rattle.nw_store.specs.Lock.{parts_of_a_ledger};
 use crate::books::Start;
 use nw_check::Checked;
 use nw_digest::Round;
-use nw_interpreter::{Bindings, LineFault, hash, refused};
+use nw_interpreter::{Bindings, LineFault, empty_line, hash, refused};
 use nw_script::{Name, Request};
 use nw_sig::DemoScheme;
 use nw_store::{Command, Done, Home, NoStep, Opening, Session, Store};
 use std::alloc::Global;
+use std::fmt::Write;
 use std::sync::Wait;
 
 /// A store, its sessions by id, and the one that makes the next call.
@@ -237,7 +238,9 @@ impl<L: Home> Player<L> {
             return Ok(format!(in alloc; "refused too many")?);
         }
         self.current = place;
-        Ok(format!(in alloc; "session {id}")?)
+        let mut line = empty_line(alloc)?;
+        write!(line, "session {id}")?;
+        Ok(line)
     }
 
     /// Adds a session, and returns whether the store made one. The first one added is current at the start.

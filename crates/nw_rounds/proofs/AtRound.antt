@@ -1,34 +1,23 @@
 -- Which digests belong to a range of rounds.
-use Rattle.std.proofs.Common.{◌≡◌, ◌∙◌, ◌⊎◌, inl, inr, ℕ, ◌<◌, ◌≤◌, Bool, true, false, cond, not, ◌&&◌, ◌++◌, List, [], ◌∷◌, map, Bor, Option, Some, None, zero, suc, refl, sym, ap, subst, arith}
-use Rattle.std.specs.Prelude.{All, filter, Contains, IsPermutation, nat_le, slice_get}
+use Rattle.nw_rounds.proofs.Words.{◌≡◌, ◌∙◌, ◌⊎◌, inl, inr, ℕ, ◌<◌, Bool, true, false, cond, ◌&&◌, ◌++◌, List, [], ◌∷◌, map, Bor, Option, Some, None, zero, suc, refl, sym, ap, subst, arith, filter, Contains, IsPermutation, nat_le, slice_get, Less, Equal, Greater, nat_cmp, eq_by_cmp, ordering_then, eq_by_cmp_equiv, nat_cmp_is, IsFiltered, DiffersFromLast, IsSorted, IsStrictlySortedBy, lookup, keys_of, values_of, is_at, get, deref_pair, lookup-filter-keys, Digest, digest_cmp, Slot, tie}
+use Rattle.std.proofs.Common.{◌≤◌, not}
+use Rattle.std.specs.Prelude.{All}
 use Rattle.std.specs.Bool.{MatchBool}
 use Rattle.std.specs.declared.cmp.Ordering.{Ordering}
-use Rattle.std.specs.declared.cmp.Ordering.TheVariants.{Less, Equal, Greater}
 use Rattle.std.specs.declared.ops.Bound.TheVariants.{Included, Excluded}
-use Rattle.std.specs.Ordering.{nat_cmp, is_gt, is_le, eq_by_cmp, ordering_then}
-use Rattle.std.specs.Cmp.{eq_by_cmp_equiv, nat_cmp_is}
+use Rattle.std.specs.Ordering.{is_gt, is_le}
 use Rattle.std.specs.List.{IsDistinct}
-use Rattle.std.specs.List.Retain.{IsFiltered, DiffersFromLast}
-use Rattle.std.specs.List.Sorted.{IsSorted, IsStrictlySortedBy}
-use Rattle.std.specs.Map.{lookup, keys_of, values_of}
-use Rattle.std.specs.BTreeMap.{is_at}
-use Rattle.std.specs.FinMap.{get}
 use Rattle.std.specs.BTreeMap.Range.{IsLeBy, range_contains}
-use Rattle.std.specs.Map.Iter.{deref_pair}
 use Rattle.std.proofs.lemmas.Bool.{le-leb, lt-leb, ltb-true, ltb-false}
 use Rattle.std.proofs.lemmas.List.Elements.{All-head, All-tail, All-weaker, filter_agree}
-use Rattle.std.proofs.lemmas.Map.Entries.{lookup-filter-keys}
 use Rattle.std.proofs.lemmas.List.Kept.{IsStrictlySortedBy-filter}
 use Rattle.std.proofs.lemmas.Map.Keys.{IsDistinct-from_sorted}
 use Rattle.std.proofs.lemmas.Map.Made.{Contains-from_values_of, Contains-values_of, IsDistinct-keys_filter}
 use Rattle.std.proofs.lemmas.Map.Views.{Contains-from_lookup, lookup-from_Contains}
 use Rattle.std.proofs.lemmas.Bool.Decides.{nat_tests}
 use lib.Dec.{leb, ltb}
-use Rattle.nw_digest.specs.declared.digest.Digest.{Digest}
 use Rattle.nw_rounds.specs.declared.kind.DigestKind.{DigestKind}
 use Rattle.nw_rounds.specs.declared.kind.DigestKind.TheVariants.{First, Certified}
-use Rattle.nw_digest.specs.Order.{digest_cmp, Slot}
-use Rattle.nw_digest.proofs.Maps.{tie}
 use Rattle.nw_rounds.specs.Slots.{AreDigestsBetween, HasAllDigests, IsDigestAt, Tables}
 use Rattle.nw_rounds.specs.Places.{ArePlacesBetween, BeginsBelow, Place, place_cmp, kind_cmp, map_of, tables_of}
 use Rattle.nw_rounds.proofs.SlotLemmas.{places_apart, places_total}
@@ -90,7 +79,8 @@ kept_only : (b : Bool) (found : Option Digest) (d : Digest) → cond b found Non
 kept_only true found d e = (refl, e)
 kept_only false found d e = cc
 
-at_kind : (es : List (Place × Digest)) (slot : Slot) (t : DigestKind) → get (map_of (tables_of es) t) slot ≡ lookup (is_at (place_cmp (slot, t))) es
+-- a lookup in the map of a kind is one in the entries
+pub at_kind : (es : List (Place × Digest)) (slot : Slot) (t : DigestKind) → get (map_of (tables_of es) t) slot ≡ lookup (is_at (place_cmp (slot, t))) es
 at_kind es slot First = get_in First slot es
 at_kind es slot Certified = get_in Certified slot es
 

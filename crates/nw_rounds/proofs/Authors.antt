@@ -1,22 +1,14 @@
 -- The authors of a round, from its places.
-use Rattle.std.proofs.Common.{◌≡◌, ◌∙◌, ◌⊎◌, inl, inr, ℕ, ◌+◌, ◌<◌, Bool, true, false, cond, ◌++◌, List, [], ◌∷◌, map, Bor, Some, zero, suc, refl, sym, ap, subst, arith}
-use Rattle.std.specs.Prelude.{Contains, slice_get, ◌-◌, length, get_or}
-use Rattle.std.specs.declared.cmp.Ordering.TheVariants.{Less, Equal, Greater}
-use Rattle.std.specs.Ordering.{nat_cmp, is_lt, ordering_then}
-use Rattle.std.specs.Cmp.{nat_cmp_is}
-use Rattle.std.specs.List.{dedup, dedup_from}
-use Rattle.std.specs.List.Sorted.{IsSorted, IsStrictlySortedBy}
+use Rattle.nw_rounds.proofs.Words.{◌≡◌, ◌∙◌, ◌⊎◌, inl, inr, ℕ, ◌<◌, Bool, true, false, cond, ◌++◌, List, [], ◌∷◌, map, Bor, Some, zero, suc, refl, sym, ap, subst, arith, Contains, slice_get, Less, Equal, Greater, nat_cmp, ordering_then, nat_cmp_is, dedup, IsSorted, IsStrictlySortedBy, keys_of, get, deref_pair, Contains-from_dedup, eqb, Digest, Slot}
+use Rattle.std.proofs.Common.{◌+◌}
+use Rattle.std.specs.Prelude.{◌-◌, length, get_or}
+use Rattle.std.specs.Ordering.{is_lt}
+use Rattle.std.specs.List.{dedup_from}
 use Rattle.std.specs.Option.{option_map_or}
-use Rattle.std.specs.Map.{keys_of}
-use Rattle.std.specs.FinMap.{get}
-use Rattle.std.specs.Map.Iter.{deref_pair}
-use Rattle.std.proofs.lemmas.List.Kept.{Contains-dedup_nat, Contains-from_dedup}
+use Rattle.std.proofs.lemmas.List.Kept.{Contains-dedup_nat}
 use Rattle.std.proofs.lemmas.Map.Keys.{IsStrictlyIncreasing-dedup, sorted_from_strictly_increasing, sorted_head, sorted_tail}
-use lib.Dec.{eqb}
-use Rattle.nw_digest.specs.declared.digest.Digest.{Digest}
 use Rattle.nw_rounds.specs.declared.kind.DigestKind.{DigestKind}
 use Rattle.nw_rounds.specs.declared.kind.DigestKind.TheVariants.{First, Certified}
-use Rattle.nw_digest.specs.Order.{Slot}
 use Rattle.nw_digest.proofs.Elements.{contains_first, contains_later, contains_cases, contains_none}
 use Rattle.nw_digest.proofs.Found.{which, is_there}
 use Rattle.nw_rounds.specs.Slots.{AreAuthorsAt, HasDigest, Tables}

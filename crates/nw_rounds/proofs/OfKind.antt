@@ -1,19 +1,12 @@
 -- What a lookup by kind finds in the one map that holds the digests of both kinds.
-use Rattle.std.proofs.Common.{◌≡◌, ◌∙◌, ℕ, Bool, true, false, cond, ◌&&◌, List, [], ◌∷◌, Option, Some, None, refl, sym, ap}
-use Rattle.std.specs.Prelude.{filter, nat_le}
-use Rattle.std.specs.Ordering.{is_eq, eq_by_cmp}
-use Rattle.std.specs.Cmp.{eq_by_cmp_equiv, tied_then}
-use Rattle.std.specs.Map.{lookup}
-use Rattle.std.specs.BTreeMap.{is_at}
-use Rattle.std.specs.FinMap.{find, from_entries, get, insert, retain_keys, get-from_entries, get-insert, get-retain_keys, same_map}
-use Rattle.std.proofs.lemmas.Map.Entries.{lookup-filter-keys}
+use Rattle.nw_rounds.proofs.Words.{◌≡◌, ◌∙◌, ℕ, Bool, true, false, cond, ◌&&◌, List, [], ◌∷◌, Option, Some, None, refl, sym, ap, filter, nat_le, eq_by_cmp, eq_by_cmp_equiv, lookup, is_at, get, insert, retain_keys, lookup-filter-keys, Digest, Slot, slot_cmp, slots_apart, slots_total, tie}
+use Rattle.std.specs.Ordering.{is_eq}
+use Rattle.std.specs.Cmp.{tied_then}
+use Rattle.std.specs.FinMap.{find, from_entries, get-from_entries, get-insert, get-retain_keys, same_map}
 use Rattle.std.proofs.lemmas.Bool.{and_parts}
-use Rattle.nw_digest.specs.declared.digest.Digest.{Digest}
 use Rattle.nw_rounds.specs.declared.kind.DigestKind.{DigestKind}
 use Rattle.nw_rounds.specs.declared.kind.DigestKind.TheVariants.{First, Certified}
-use Rattle.nw_digest.specs.Order.{Slot, slot_cmp}
 use Rattle.nw_rounds.specs.Places.{Place, of_kind, is_kind, place_cmp, kind_cmp}
-use Rattle.nw_digest.proofs.Maps.{slots_apart, slots_total, tie}
 
 kind_tied : (s t : DigestKind) → is_eq (kind_cmp s t) ≡ is_kind s t
 kind_tied First First = refl

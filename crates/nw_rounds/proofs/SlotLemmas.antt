@@ -1,14 +1,11 @@
 -- The order of places.
-use Rattle.std.proofs.Common.{◌≡◌, ℕ, refl, subst}
+use Rattle.nw_rounds.proofs.Words.{◌≡◌, ℕ, refl, subst, nat_cmp, slot_cmp, slots_total, slots_apart}
 use Rattle.std.specs.Cmp.{IsTotalOrder}
-use Rattle.std.specs.Ordering.{nat_cmp}
 use Rattle.std.specs.FinMap.{IsAntisymmetric}
 use Rattle.std.proofs.lemmas.Cmp.{on_total, then_total, nat_cmp_total}
 use Rattle.std.proofs.lemmas.Map.Lookups.{exact_pairs}
 use Rattle.nw_rounds.specs.declared.kind.DigestKind.{DigestKind}
 use Rattle.nw_rounds.specs.declared.kind.DigestKind.TheVariants.{First, Certified}
-use Rattle.nw_digest.specs.Order.{slot_cmp}
-use Rattle.nw_digest.proofs.Maps.{slots_total, slots_apart}
 use Rattle.nw_rounds.specs.Places.{Place, place_cmp, kind_cmp}
 
 kinds_apart : IsAntisymmetric kind_cmp

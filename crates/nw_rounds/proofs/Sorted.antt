@@ -1,17 +1,12 @@
 -- Digests, sorted and without repetitions.
-use Rattle.std.proofs.Common.{◌≡◌, ◌↔◌, Bool, true, List, [], sym, ◌∙◌, subst}
-use Rattle.std.specs.Prelude.{Contains, IsPermutation}
+use Rattle.nw_rounds.proofs.Words.{◌≡◌, Bool, true, List, [], sym, ◌∙◌, subst, Contains, IsPermutation, dedup, IsFiltered, DiffersFromLast, IsSorted, IsStrictlySortedBy, Contains-from_dedup, Digest, digest_cmp}
+use Rattle.std.proofs.Common.{◌↔◌}
 use Rattle.std.specs.Cmp.{IsEquivalence, on_equiv}
 use Rattle.std.specs.Cmp.Lexicographic.{nat_list_eq_equiv, texts_ties}
-use Rattle.std.specs.List.{dedup}
-use Rattle.std.specs.List.Retain.{IsFiltered, DiffersFromLast}
-use Rattle.std.specs.List.Sorted.{IsSorted, IsStrictlySortedBy}
 use Rattle.std.specs.Str.{bytes_eq}
 use Rattle.std.proofs.lemmas.List.Filters.{dedup_is}
-use Rattle.std.proofs.lemmas.List.Kept.{Contains-dedup, Contains-from_dedup, IsStrictlySortedBy-dedup}
+use Rattle.std.proofs.lemmas.List.Kept.{Contains-dedup, IsStrictlySortedBy-dedup}
 use Rattle.std.proofs.lemmas.List.Sorted.{Contains-permutation, IsPermutation-sym}
-use Rattle.nw_digest.specs.declared.digest.Digest.{Digest}
-use Rattle.nw_digest.specs.Order.{digest_cmp}
 use Rattle.nw_digest.proofs.Maps.{digests_total, same_digest}
 
 -- whether two digests have the same bytes

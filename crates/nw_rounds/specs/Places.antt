@@ -1,5 +1,5 @@
 -- The digests of both kinds in one map.
-use Rattle.std.specs.Prelude.{◌≡◌, ◌==◌, ◌↔◌, ℕ, ◌-◌, ◌<◌, ◌≤◌, List, [], ◌∷◌, ◌++◌, length, slice_get, Bool, true, false, Some, Contains, if◌then◌else◌}
+use Rattle.std.specs.Prelude.{◌≡◌, ◌==◌, ◌↔◌, ℕ, ◌-◌, ◌^◌, ◌<◌, ◌≤◌, All, List, [], ◌∷◌, ◌++◌, length, slice_get, Bool, true, false, Some, Contains, if◌then◌else◌}
 use Rattle.std.specs.declared.cmp.Ordering.{Ordering}
 use Rattle.std.specs.Ordering.{eq_by_cmp, ordering_then}
 use Rattle.std.specs.List.{IsDistinct}
@@ -52,6 +52,14 @@ pub record ArePlacesBetween (t : Tables) (from to : ℕ) (places : List (Place �
   pub exactly : (p : Place) (d : Digest) → Contains places (p, d) ↔ ((from ≤ p.0.0) × (p.0.0 < to) × (get (map_of t p.1) p.0 ≡ Some d))
   -- each place once
   pub once : IsDistinct (eq_by_cmp place_cmp) (keys_of places)
+
+-- the number of the place is that of a round
+abbrev pub IsOfRound : Place → Type 0
+IsOfRound p = p.0.0 < 2 ^ 48
+
+-- the places are of rounds
+abbrev pub AreRounds : List (Place × Digest) → Type 0
+AreRounds entries = All IsOfRound (keys_of entries)
 
 -- the authors, with this one at the end, unless it is the last one already
 abbrev pub with_author : List ℕ → ℕ → List ℕ

@@ -35,6 +35,15 @@ pub record AreAuthorsAt (t : Tables) (round : ℕ) (authors : List ℕ) : Type 0
   -- ascending, each once
   pub ascending : IsStrictlySortedBy nat_cmp authors
 
+-- the newest round with a first or a certified digest, or this one if none is newer
+pub record IsNewest (t : Tables) (least round : ℕ) : Type 0 where
+  -- it is not below the one that is given
+  pub least_first : least ≤ round
+  -- no digest is above it
+  pub last : (slot : Slot) → HasDigest t slot → slot.0 ≤ round
+  -- it is the one that is given, or has a digest
+  pub some : (round ≡ least) ⊎ ((author : ℕ) × HasDigest t (round, author))
+
 -- the list of the digests of the rounds from..to
 pub record AreDigestsBetween (t : Tables) (from to : ℕ) (digests : List Digest) : Type 0 where
   -- a digest is listed exactly when it is one of these

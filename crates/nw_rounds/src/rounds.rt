@@ -6,7 +6,7 @@ ghost use Rattle.std.specs.List.Sorted.{IsStrictlySortedBy};
 ghost use Rattle.std.specs.Map.{keys_of};
 ghost use Rattle.std.specs.BTreeMap.{keys, values};
 ghost use Rattle.std.specs.FinMap as map;
-ghost use Rattle.nw_rounds.specs.Slots.{AreAuthorsAt, AreDigestsBetween, HasAllDigests, no_digests};
+ghost use Rattle.nw_rounds.specs.Slots.{AreAuthorsAt, AreDigestsBetween, HasAllDigests, IsNewest, no_digests};
 ghost use Rattle.nw_rounds.specs.Places.{ArePlacesBetween, BeginsBelow, place_cmp, tables_of, with_author};
 
 use crate::kind::DigestKind;
@@ -37,9 +37,11 @@ impl<A: Allocator> Model for Rounds<A> {
 
     ghost coded = { coded_tables };
 
-    ghost use Rattle.nw_rounds.specs.Places.{tables_of};
+    ghost use Rattle.nw_rounds.specs.Places.{AreRounds, tables_of};
 
     ghost view = { λ r. tables_of r.digests.entries };
+
+    ghost invariant = { λ r. AreRounds r.digests.entries };
 }
 
 impl<A: Allocator> Rounds<A> {
@@ -107,6 +109,19 @@ impl<A: Allocator> Rounds<A> {
         self.digests
             .insert(((round.get(), author), DigestKind::Certified), digest)?;
         Ok(())
+    }
+
+    /// The newest round with a first or a certified digest, or `floor` if none is newer. Allocates nothing.
+    pub fn newest(&self, floor: Round) -> Round
+        ensures { IsNewest self.now floor result }
+    {
+        let Some(((slot, _kind), _digest)) = self.digests.last_key_value() else {
+            return floor;
+        };
+        if slot.0 <= floor.get() {
+            return floor;
+        }
+        Round::new(slot.0).unwrap_or(floor)
     }
 
     /// The authors with a first or a certified digest in the round, ascending. `NoMemory` if an allocation fails.

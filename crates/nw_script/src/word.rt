@@ -36,7 +36,7 @@ impl<'a> Name<'a> {
 
 impl fmt::Display for Name<'_> {
     fn fmt<W: fmt::Write>(&self, f: &mut fmt::Formatter<W>) -> fmt::Result {
-        write!(f, "{}", self.text)
+        f.write_str(self.text)
     }
 }
 

@@ -1,17 +1,10 @@
 -- Journals, after the history has one more event.
-use Rattle.std.proofs.Common.{◌≡◌, ◌≢◌, ℕ, suc, ◌<◌, Bool, cond, List, [], ◌∷◌, ◌++◌, length, map, drop, refl, sym, ap, ◌∙◌, subst, arith, append-nil}
-use Rattle.std.specs.Prelude.{All}
-use Rattle.std.proofs.lemmas.Bool.{eq-eqb, ne_eqb}
-use Rattle.std.proofs.lemmas.List.Elements.{All-push, All-weaker}
-use Rattle.nw_model.specs.declared.event.Event.{Event}
+use Rattle.nw_shared_store.proofs.Words.{◌≡◌, ◌≢◌, ℕ, suc, ◌<◌, Bool, cond, List, [], ◌∷◌, ◌++◌, length, map, refl, sym, ap, ◌∙◌, subst, arith, All, eq-eqb, ne_eqb, All-push, All-weaker, Event, Story, with_event, IsPrefixOf, AnswerView, Journal, IsJournalOf, prefix_itself, prefix_trans, prefix_next}
+use Rattle.std.proofs.Common.{drop, append-nil}
 use Rattle.nw_model.specs.History.{events_of}
-use Rattle.nw_history.specs.Story.{Story, with_event}
-use Rattle.nw_history.specs.Prefix.{IsPrefixOf}
-use Rattle.nw_book.specs.Answer.{AnswerView}
-use Rattle.nw_book.specs.Journal.{Journal, ArePrefixesOf}
-use Rattle.nw_book.specs.Settled.{IsJournalOf, events_in}
+use Rattle.nw_book.specs.Journal.{ArePrefixesOf}
+use Rattle.nw_book.specs.Settled.{events_in}
 use Rattle.nw_book.proofs.Longer.{events_of_last}
-use Rattle.nw_book.proofs.Prefixes.{prefix_itself, prefix_trans, prefix_next}
 use Rattle.nw_shared_store.specs.Rule.{answered, new_journal}
 
 drop_begun : (xs ys : List Event) → drop (length xs) (xs ++ ys) ≡ ys

@@ -1,3 +1,4 @@
+pub mod Words
 pub mod Grown
 pub mod Slots
 pub mod Fitting
@@ -10,3 +11,8 @@ pub mod Enrolled
 pub mod Parts
 pub mod Stepped
 pub mod Send
+pub mod Ended
+pub mod Cut
+pub mod Agreed
+pub mod Recorded
+pub mod Unsettled

@@ -61,7 +61,7 @@ module _ (S : RattleType) (g : Ghosts S.Denot) (d : Dict) where
   )
 
   pub shared_store_send : IsSend (store.the_row S g)
-  shared_store_send = view_send (store_inside.the_row S g) _ _ _ _ (declared_send (store_inside.the_type S g) (search (sendable, crosses, lock_send, lock_sync) depth 40, tt))
+  shared_store_send = view_send (store_inside.the_row S g) _ _ _ _ (declared_send (store_inside.the_type S g) (search (sendable, crosses, lock_send, lock_sync) depth 40, (seat.the_send (locked.the_row S g) SeatView locked_send, tt)))
 
   pub shared_session_send : IsSend (session.the_row S g)
   shared_session_send = view_send (session_inside.the_row S g) _ _ _ _ (declared_send (session_inside.the_type S g) (

@@ -1,8 +1,7 @@
 -- Work on the value, which a seat has in its slot.
-use Rattle.std.proofs.Common.{◌≡◌, ℕ, List, [], ◌∷◌, Option, Some, None, Result, Ok, Err, sym, ap, ◌∙◌}
-use Rattle.std.specs.Prelude.{IfSome}
-use Rattle.std.specs.Result.{IfOk, IfErr}
-use Rattle.atomic_table.specs.Table.{Me, rest}
+use Rattle.nw_shared_store.proofs.Words.{◌≡◌, ℕ, List, [], ◌∷◌, Option, Some, None, Result, Ok, Err, sym, ap, ◌∙◌, IfOk, IfErr, Me}
+use Rattle.std.specs.Prelude.{IfNone, IfSome}
+use Rattle.atomic_table.specs.Table.{rest}
 use Rattle.nw_shared_store.specs.Locked.{Current}
 use Rattle.nw_shared_store.specs.Rule.{SeatView, HasValue}
 
@@ -50,3 +49,8 @@ module _ (me : Me Current SeatView) (x g : Current) (lent : me.1 ≡ (0, x) ∷ 
   pub on_also : {A E : Type 0} (P : Current → Type 0) (Q : Current → A → Type 0) (r : Result A E) → P x → IfOk r (Q x) → IfOk r (λ a. HasValue me (λ d. P d × Q d a))
   on_also P Q (Ok a) fact of = (x, value_is, (fact, of))
   on_also P Q (Err e) fact of = tt
+
+  -- there is none
+  pub on_none : {A : Type 0} (Q : Current → Type 0) (r : Option A) → IfNone r (Q x) → IfNone r (HasValue me Q)
+  on_none Q (Some a) of = tt
+  on_none Q None of = (x, value_is, of)

@@ -1,29 +1,23 @@
 -- The value under the lock, after a step of its book.
-use Rattle.std.proofs.Common.{◌≡◌, ℕ, ◌<◌, ◌≤◌, Result, Ok, Err, sym, subst}
-use Rattle.std.specs.Prelude.{All}
-use Rattle.std.specs.Result.{IfOk, OnErr}
-use Rattle.std.proofs.lemmas.List.Elements.{All-nil, All-push}
-use Rattle.nw_sig.specs.Signed.{Meaning}
-use Rattle.nw_model.specs.declared.call.Call.{Call}
-use Rattle.nw_model.specs.declared.event.Event.{Event}
-use Rattle.nw_model.specs.declared.reply.Reply.{Reply}
+use Rattle.nw_shared_store.proofs.Words.{◌≡◌, ℕ, ◌<◌, ◌≤◌, Result, Ok, Err, sym, subst, All, IfOk, All-nil, All-push, Meaning, Call, Event, Reply, Story, bounds_of, reopened, state_of, Takes, event}
+use Rattle.std.specs.Result.{OnErr}
 use Rattle.nw_history.specs.Limits.{AreInRange}
-use Rattle.nw_history.specs.Story.{Story, reopened}
 use Rattle.nw_history.proofs.Reopened.{reopened_legal}
-use Rattle.nw_book.specs.Answer.{Takes}
-use Rattle.nw_book.specs.Turn.{event}
 use Rattle.nw_shared_store.specs.Locked.{IsLocked}
+use Rattle.nw_shared_store.specs.Recorded.{AreRecorded, IsNoQuestion, IsRecorded}
+use Rattle.nw_shared_store.proofs.Recorded.{recorded_next}
 
 pub locked_after : {A E : Type 0} (accepts : Meaning) (old new : Story) (run made id number : ℕ) (call : Call) (reply_of : A → Reply) (front_of : A → Story) (r : Result A E)
-    → IsLocked accepts (record { run = run; history = old; made = made }) → id < made → IfOk r (λ a. Takes accepts old new id number call (reply_of a) (front_of a)) → OnErr r (new ≡ old)
+    → IsNoQuestion call → IsLocked accepts (record { run = run; history = old; made = made }) → id < made → IfOk r (λ a. Takes accepts old new id number call (reply_of a) (front_of a)) → OnErr r (new ≡ old)
     → IsLocked accepts (record { run = run; history = new; made = made })
-locked_after accepts old new run made id number call reply_of front_of (Ok a) locked below takes same = record {
+locked_after accepts old new run made id number call reply_of front_of (Ok a) plain locked below takes same = record {
   in_range = subst (λ (s : Story). AreInRange s.limits) (sym takes.history) locked.in_range;
   legal = takes.legal;
   few = subst (λ (s : Story). made ≤ s.limits.sessions) (sym takes.history) locked.few;
   below = subst (λ (s : Story). All (λ (x : Event). x.session < made) s.events) (sym takes.history) (All-push (λ (x : Event). x.session < made) old.events (event id number call (reply_of a)) locked.below below);
+  recorded = subst (λ (s : Story). AreRecorded s.events) (sym takes.history) (recorded_next (bounds_of old.limits) (state_of old) old.events id number call (reply_of a) plain takes.is_reply locked.recorded);
 }
-locked_after accepts old new run made id number call reply_of front_of (Err e) locked below takes same =
+locked_after accepts old new run made id number call reply_of front_of (Err e) plain locked below takes same =
     subst (λ (s : Story). IsLocked accepts (record { run = run; history = s; made = made })) (sym same) locked
 
 -- the value of the next run
@@ -34,4 +28,5 @@ locked_next accepts old new run made next locked is = subst (λ (s : Story). IsL
   legal = reopened_legal accepts old locked.legal;
   few = locked.few;
   below = All-nil (λ (x : Event). x.session < made);
+  recorded = All-nil (λ (x : Event). IsRecorded x.call x.reply);
 })

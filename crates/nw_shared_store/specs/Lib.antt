@@ -1,3 +1,4 @@
+pub mod Recorded
 pub mod Rule
 pub mod Locked
 pub mod Session

@@ -10,6 +10,7 @@ use Rattle.nw_book.specs.Answer.{Takes}
 use Rattle.nw_book.specs.Turn.{IsRefusal, MatchesCommittee, next_number}
 use Rattle.nw_book.specs.declared.error.NoStep.{NoStep}
 use Rattle.nw_book.specs.declared.error.NoStep.TheVariants as causes
+use Rattle.nw_shared_store.specs.Recorded.{AreRecorded}
 
 -- the value, as contracts see it
 pub record Current : Type 0 where
@@ -30,6 +31,8 @@ pub record IsLocked (accepts : Meaning) (g : Current) : Type 0 where
   pub few : g.made ≤ g.history.limits.sessions
   -- each event is of a session that was made
   pub below : All (λ e. e.session < g.made) g.history.events
+  -- each event's call is recorded with its reply
+  pub recorded : AreRecorded g.history.events
 
 -- the session's next call is taken after the history of the value g, which leaves the value n
 pub record IsTaken (accepts : Meaning) (g n : Current) (id : ℕ) (under : Option (List Member)) (call : Call) (reply : Reply) (front : Story) : Type 0 where
@@ -62,6 +65,10 @@ pub record IsEnrolled (accepts : Meaning) (g n : Current) (run id : ℕ) : Type 
   pub grows : n ≡ record { run = g.run; history = g.history; made = g.made + 1 }
   -- the value was in order
   pub locked : IsLocked accepts g
+
+-- the value has as many sessions as its limits allow
+abbrev pub IsFullOf : Meaning → Current → Type 0
+IsFullOf accepts g = (g.made ≡ g.history.limits.sessions) × IsLocked accepts g
 
 -- the value has this history and this number of sessions
 abbrev pub IsFound : Meaning → Current → Story → ℕ → Type 0

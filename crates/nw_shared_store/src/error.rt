@@ -4,7 +4,7 @@ use nw_digest::NoMemory;
 use std::alloc::AllocError;
 use thiserror::Error;
 
-/// Why a call of a shared store is refused. A refusal changes nothing.
+/// Why a call of a shared store is refused. A refusal changes nothing in the store.
 #[derive(Clone, Copy, Debug, PartialEq, Eq, Error)]
 pub enum Refusal {
     /// Another thread has the lock. Try again.

@@ -12,10 +12,32 @@ pub struct Knowledge<G, F, J> {
     acts: bool,
     /// The number of the run that it knows of.
     run: u64,
+    /// The last histories of the runs before it, in order.
+    past: LinkedList<F>,
+    /// Whether it was told that this run has ended.
+    over: bool,
+    /// Last histories of ended runs that another seat knew of.
+    other: LinkedList<F>,
     /// The history of this run when the seat came to it.
     first: F,
     /// The journal of its session. If it has none, only the known histories count.
     journal: J,
+    /// What it may make.
+    right: Right,
+}
+
+/// What a seat may make. No value of this type is ever made.
+pub struct Right {
+    /// Whether it may make one session, which it then has.
+    one: bool,
+    /// Whether it is an owner's, which may make sessions and owners.
+    owns: bool,
+    /// The number of sessions made through it.
+    made: u64,
+    /// The number of owners made through it.
+    shares: u64,
+    /// The number of sessions that the store had made, when it last made one through the seat or refused to.
+    known: u64,
 }
 
 /// A journal, as a seat knows it. No value of this type is ever made.

@@ -9,7 +9,7 @@ ghost use Rattle.nw_book.specs.Command.{call_of, committee_of};
 ghost use Rattle.nw_book.specs.Turn.{IsInTurn, next_number};
 ghost use Rattle.nw_history.specs.Story.{state_of};
 ghost use Rattle.nw_model.specs.Look.{AreLooks};
-ghost use Rattle.nw_shared_store.specs.Locked.{IsEnded, IsEnrolled, IsFound, IsLocked, IsTaken, IsUntaken};
+ghost use Rattle.nw_shared_store.specs.Locked.{IsEnded, IsEnrolled, IsFound, IsFullOf, IsLocked, IsTaken, IsUntaken};
 
 use nw_book::{Book, Command, Done, Front, NoStep, Ticket};
 use nw_digest::{Digest, NoMemory, Round};
@@ -76,6 +76,7 @@ impl<S: Scheme> Locked<S> {
     /// Makes one more session, unless the limit is reached. Returns the number of the run, and that of the session.
     pub(crate) fn enrol(&mut self) -> Option<(u64, u16)>
         ensures made { IfSome result (λ made. IsEnrolled S.accepts self.old self.new made.0 made.1) }
+        ensures full { IfNone result (IsFullOf S.accepts self.old) }
         ensures unchanged { IfNone result (self.new ≡ self.old) }
     {
         let id = self.made;

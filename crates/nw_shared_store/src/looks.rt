@@ -1,9 +1,9 @@
 //! Looks of a session at the tables of its store.
-ghost use Rattle.std.specs.Prelude.{◌≡◌, IfOk, IfErr, OnErr};
+ghost use Rattle.std.specs.Prelude.{IfOk, IfErr};
 ghost use Rattle.nw_history.specs.Story.{state_of};
 ghost use Rattle.nw_model.specs.Look.{AreLooks};
 ghost use Rattle.nw_book.specs.Answered.{IsLookAfter};
-ghost use Rattle.nw_shared_store.specs.Session.{HasSeen, IsSameSession, IsUnseen};
+ghost use Rattle.nw_shared_store.specs.Session.{HasSeen, IsKept, IsSameSession, IsUnavailable, IsUnseen};
 
 use crate::lock::{end_reading, give_back, take_in};
 use crate::work::{look_at, look_round_at};
@@ -21,9 +21,9 @@ impl<S: Scheme> SharedSession<S> {
     pub fn look(&mut self, round: Round, author: u16) -> Result<Look, Refusal>
         ensures seen { IfOk result (λ look. HasSeen S.accepts self.old self.new (λ h.
             IsLookAfter h (round, author) look)) }
-        ensures refused { IfErr result IsUnseen }
+        ensures refused { IfErr result IsUnavailable }
         ensures same { IsSameSession self.old self.new }
-        ensures unchanged { OnErr result (self.new ≡ self.old) }
+        ensures unchanged { IfErr result (IsKept self.old self.new) }
     {
         take_in(&self.lock, &mut self.seat, self.run)?;
         let look = look_at(&self.lock, &mut self.seat, round, author);
@@ -40,7 +40,7 @@ impl<S: Scheme> SharedSession<S> {
             AreLooks (state_of h) round looks.items)) }
         ensures refused { IfErr result IsUnseen }
         ensures same { IsSameSession self.old self.new }
-        ensures unchanged { OnErr result (self.new ≡ self.old) }
+        ensures unchanged { IfErr result (IsKept self.old self.new) }
     {
         take_in(&self.lock, &mut self.seat, self.run)?;
         let looks = match look_round_at(&self.lock, &mut self.seat, alloc, round) {

@@ -1,8 +1,10 @@
 //! Runs: a session ends a run and begins the next, or comes to the present one.
-ghost use Rattle.std.specs.Prelude.{◌≡◌, IfOk, IfErr, OnOk, OnErr};
-ghost use Rattle.nw_shared_store.specs.Session.{IsPassing, IsRenewed, IsRestarted, IsUnseen};
+ghost use Rattle.std.specs.Prelude.{◌≡◌, List, IfOk, IfErr, OnOk, OnErr};
+ghost use Rattle.nw_history.specs.Story.{Story};
+ghost use Rattle.nw_shared_store.specs.Rule.{Begins};
+ghost use Rattle.nw_shared_store.specs.Session.{IsKept, IsRenewed, IsRestarted, IsUnseen};
 
-use crate::lock::{end_reading, give_back, join, take_in, try_take};
+use crate::lock::{cut_witness, end_reading, give_back, join, meet, take_in, try_take};
 use crate::work::{restart_at, run_at};
 use crate::{Refusal, SharedSession};
 use nw_book::Front;
@@ -16,7 +18,7 @@ impl<S: Scheme> SharedSession<S> {
     ///
     /// It copies the tables, sharing the blocks and certificates. The cost grows with the number of these, whatever the history has.
     ///
-    /// A refused restart changes nothing. The error is the first of these that applies:
+    /// A refused restart ends no run. The error is the first of these that applies:
     ///
     /// 1. `Busy`: another thread has the lock.
     /// 2. `Ended`: the run of the session has ended.
@@ -24,7 +26,7 @@ impl<S: Scheme> SharedSession<S> {
     pub fn restart(&mut self, alloc: Global) -> Result<Front<S>, Refusal>
         ensures restarted { IfOk result (IsRestarted S.accepts self.old self.new) }
         ensures refused { IfErr result IsUnseen }
-        ensures unchanged { OnErr result (self.new ≡ self.old) }
+        ensures unchanged { IfErr result (IsKept self.old self.new) }
     {
         take_in(&self.lock, &mut self.seat, self.run)?;
         let (last, next) = match restart_at(&self.lock, &mut self.seat, alloc) {
@@ -45,7 +47,7 @@ impl<S: Scheme> SharedSession<S> {
     /// `Busy`: another thread has the lock.
     pub fn renew(&mut self) -> Result<(), Refusal>
         ensures renewed { OnOk result (IsRenewed S.accepts self.old self.new) }
-        ensures refused { IfErr result IsPassing }
+        ensures refused { IfErr result (λ why. why ≡ Refusal.Busy) }
         ensures unchanged { OnErr result (self.new ≡ self.old) }
     {
         try_take(&self.lock, &mut self.seat)?;
@@ -57,5 +59,17 @@ impl<S: Scheme> SharedSession<S> {
         join(&self.lock, &mut self.seat);
         self.run = present;
         Ok(())
+    }
+    /// Shows that this session and another one of its store know of the same ended runs: the lists of their last histories begin one list.
+    /// This is not a call. It changes nothing, and does not take the lock.
+    pub fn agree(&mut self, other: &mut SharedSession<S>)
+        requires { other.old.lock ≡ self.old.lock }
+        ensures agreed { (past : List Story) × Begins self.old.past past × Begins other.old.past past }
+        ensures unchanged { self.new ≡ self.old }
+        ensures other_unchanged { other.new ≡ other.old }
+    {
+        let mine = cut_witness(&self.lock, &mut self.seat);
+        let others = cut_witness(&other.lock, &mut other.seat);
+        meet(&self.lock, mine, others);
     }
 }

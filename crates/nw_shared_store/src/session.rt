@@ -1,5 +1,5 @@
 //! Sessions of a shared store.
-ghost use Rattle.std.specs.Prelude.{◌≡◌, None, IsTrue, IsFalse, IfOk, IfErr, OnOk, OnErr};
+ghost use Rattle.std.specs.Prelude.{◌≡◌, ◌↔◌, false, None, IsTrue, IfOk, IfErr, OnOk};
 ghost use Rattle.nw_model.specs.declared.call.Call.TheVariants as Call;
 ghost use Rattle.nw_book.specs.Answer.{IsTicketFor, front_of, reply_of};
 ghost use Rattle.nw_book.specs.Answered.{IsExplained};
@@ -7,8 +7,10 @@ ghost use Rattle.nw_book.specs.Command.{call_of, committee_of};
 ghost use Rattle.nw_book.specs.Journal.{KnowsAll, origin_of};
 ghost use Rattle.nw_book.specs.Settled.{IsJournalOf};
 ghost use Rattle.nw_book.specs.Turn.{MatchesCommittee};
+ghost use Rattle.nw_shared_store.specs.Recorded.{AreRecorded};
 ghost use Rattle.nw_shared_store.specs.Rule.{knowing};
-ghost use Rattle.nw_shared_store.specs.Session.{HasHeard, IsOfAnother, IsPresent, IsRefused, IsSameSession, IsUnseen};
+ghost use Rattle.nw_history.specs.Prefix.{IsPrefixOf};
+ghost use Rattle.nw_shared_store.specs.Session.{HasSeen, IsKept, IsPresent, IsRefusedBy, IsSameSession, IsUnseen};
 
 use crate::Refusal;
 use crate::lock::{end_call, end_reading, give_back, take_in};
@@ -25,7 +27,7 @@ use std::sync::Arc;
 /// run, and its journal of this run: its id, its answers, and the histories that it knows of.
 ///
 /// A call makes one attempt to take the store's lock, and never waits. On `Busy` nothing changed: call again. On `Ended` the run of the
-/// session has ended, and nothing changed: renew the session.
+/// session has ended, as it knows from then on: renew the session.
 #[derive(Drop)]
 pub struct SharedSession<S: Scheme> {
     pub(crate) lock: Arc<Lock<S>, Global>,
@@ -47,6 +49,8 @@ impl<S: Scheme> Model for SharedSession<S> {
     ghost view = { λ s. record {
       lock = s.lock.value.shared.table_id;
       run = s.seat.me.0.run;
+      past = s.seat.me.0.past;
+      over = s.seat.me.0.over;
       first = s.seat.me.0.first;
       journal = s.seat.me.0.journal;
     } };
@@ -71,7 +75,8 @@ impl<S: Scheme> SharedSession<S> {
 
     /// Makes the command's call as the session's next call. The call is never out of turn.
     ///
-    /// A refused call changes nothing, and can be tried again. The error is the first of these that applies:
+    /// A refused call adds no event, and can be tried again. If it takes no step, the session now knows of the history of the run as it is now,
+    /// after which the cause applies. The error is the first of these that applies:
     ///
     /// 1. `Busy`: another thread has the lock.
     /// 2. `Ended`: the run of the session has ended.
@@ -86,16 +91,17 @@ impl<S: Scheme> SharedSession<S> {
             (λ done. IsJournalOf done.front self.old.journal.id self.new.journal) }
         ensures own_committee { OnOk result
             (MatchesCommittee self.old.first.committee (committee_of command.now)) }
-        ensures refused { IfErr result (IsRefused S.accepts (origin_of self.old.first)
-            self.old.journal (committee_of command.now)) }
+        ensures recorded { IfOk result (λ done. AreRecorded done.front.events) }
+        ensures goes_on { OnOk result (self.new.over ≡ false) }
+        ensures refused { IfErr result
+            (IsRefusedBy S.accepts self.old self.new (committee_of command.now)) }
         ensures same { IsSameSession self.old self.new }
-        ensures unchanged { OnErr result (self.new ≡ self.old) }
     {
         take_in(&self.lock, &mut self.seat, self.run)?;
         let done = match call_at(&self.lock, &mut self.seat, alloc, self.id, command) {
             Ok(done) => done,
             Err(why) => {
-                give_back(&self.lock, &mut self.seat);
+                end_reading(&self.lock, &mut self.seat);
                 return Err(Refusal::NoStep(why));
             }
         };
@@ -106,7 +112,8 @@ impl<S: Scheme> SharedSession<S> {
     /// Opens a causal read of the digest as the session's next call. If the digest is complete, returns a ticket, which is walked later
     /// without the lock. Otherwise returns an answer that says why there is no list. The call is never out of turn.
     ///
-    /// A refused call changes nothing, and can be tried again. The error is the first of these that applies:
+    /// A refused call adds no event, and can be tried again. If it takes no step, the session now knows of the history of the run as it is now,
+    /// after which the cause applies. The error is the first of these that applies:
     ///
     /// 1. `Busy`: another thread has the lock.
     /// 2. `Ended`: the run of the session has ended.
@@ -122,17 +129,17 @@ impl<S: Scheme> SharedSession<S> {
             self.new.journal (Call.Causal digest) (reply_of answer) (front_of answer)) }
         ensures own_calls { IfOk result
             (λ answer. IsJournalOf (front_of answer) self.old.journal.id self.new.journal) }
+        ensures recorded { IfOk result (λ answer. AreRecorded (front_of answer).events) }
+        ensures goes_on { OnOk result (self.new.over ≡ false) }
         ensures told { IfOk result (IsTicketFor digest) }
-        ensures refused { IfErr result (IsRefused S.accepts (origin_of self.old.first)
-            self.old.journal None) }
+        ensures refused { IfErr result (IsRefusedBy S.accepts self.old self.new None) }
         ensures same { IsSameSession self.old self.new }
-        ensures unchanged { OnErr result (self.new ≡ self.old) }
     {
         take_in(&self.lock, &mut self.seat, self.run)?;
         let answer = match open_at(&self.lock, &mut self.seat, alloc, self.id, digest) {
             Ok(answer) => answer,
             Err(why) => {
-                give_back(&self.lock, &mut self.seat);
+                end_reading(&self.lock, &mut self.seat);
                 return Err(Refusal::NoStep(why));
             }
         };
@@ -151,9 +158,10 @@ impl<S: Scheme> SharedSession<S> {
             self.old.journal now.0 now.1) }
         ensures knows { IfOk result
             (λ now. self.new.journal ≡ knowing self.old.journal now.0) }
+        ensures knew { KnowsAll self.new.journal.known self.old.journal.known }
         ensures refused { IfErr result IsUnseen }
         ensures same { IsSameSession self.old self.new }
-        ensures unchanged { OnErr result (self.new ≡ self.old) }
+        ensures unchanged { IfErr result (IsKept self.old self.new) }
     {
         take_in(&self.lock, &mut self.seat, self.run)?;
         let now = match history_at(&self.lock, &mut self.seat) {
@@ -168,22 +176,21 @@ impl<S: Scheme> SharedSession<S> {
     }
 
     /// Hears the note, which is a history of the same run: returns `true`, and from then on the note is a prefix of the history of every
-    /// answer of this session in this run. Returns `false` if the note is no prefix of the run's history. This is not a call.
+    /// answer of this session in this run. Returns `false` if the note is no prefix of the history as it is now. This is not a call.
     ///
     /// It compares the bases, and the session, number and call of each event of the note, without the lock.
     ///
     /// `Busy`: another thread has the lock. `Ended`: the run of the session has ended. `NoMemory`: a reference count is at its limit.
     pub fn hear(&mut self, note: &Front<S>) -> Result<bool, Refusal>
-        ensures heard { IfOk result (λ yes. IsTrue yes → HasHeard self.new.journal note.now) }
-        ensures other { IfOk result (λ yes. IsFalse yes
-            → IsOfAnother S.accepts (origin_of self.old.first) note.now) }
+        ensures heard { IfOk result (λ yes. HasSeen S.accepts self.old self.new (λ h.
+            IsTrue yes ↔ IsPrefixOf note.now h)) }
         ensures knew { KnowsAll self.new.journal.known self.old.journal.known }
         ensures answers { self.new.journal.answers ≡ self.old.journal.answers }
         ensures refused { IfErr result IsUnseen }
         ensures same { IsSameSession self.old self.new }
-        ensures unchanged { OnErr result (self.new ≡ self.old) }
+        ensures unchanged { IfErr result (IsKept self.old self.new) }
     {
-        let (history, _) = self.history()?;
-        Ok(note.is_prefix_of(&history))
+        let now = self.history()?;
+        Ok(note.is_prefix_of(&now.0))
     }
 }

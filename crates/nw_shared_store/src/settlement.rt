@@ -1,8 +1,10 @@
 //! Settlement: the journals of all sessions together are the history.
-ghost use Rattle.std.specs.Prelude.{◌≡◌, ◌+◌, ◌^◌, ◌<◌, IfOk, OnOk, length, map, All};
-ghost use Rattle.nw_book.specs.Journal.{IsHistoryOf, origin_of};
+ghost use Rattle.std.specs.Prelude.{◌≡◌, ◌+◌, ◌^◌, ◌<◌, IfOk, IfErr, OnOk, length, map, All};
+ghost use Rattle.std.specs.List.{Contains};
+ghost use Rattle.nw_book.specs.Journal.{IsHistoryOf, KnowsAll, origin_of};
 ghost use Rattle.nw_book.specs.Settled.{AreSettled};
-ghost use Rattle.nw_shared_store.specs.Settlement.{AreParts, IsPart, kept};
+ghost use Rattle.nw_shared_store.specs.Recorded.{AreRecorded};
+ghost use Rattle.nw_shared_store.specs.Settlement.{AreApart, AreParts, AreUnsettled, HasFound, IsApart, IsNoFirst, IsPart, StillKnow, kept};
 
 use crate::{Refusal, SharedSession};
 use nw_book::Front;
@@ -18,7 +20,7 @@ pub enum SettleFault {
         /// The number of sessions that were given.
         given: usize,
     },
-    /// The session at this place has another id than its place, or the history of its store is another one.
+    /// The session at this place has another id than its place, or the history of its run is another one than that of the first session's run.
     #[error("session {session} is of another store, or has another number")]
     Differs {
         /// The place.
@@ -39,6 +41,10 @@ pub fn settle<S: Scheme>(sessions: &mut [SharedSession<S>]) -> Result<Front<S>, 
         (λ history. AreSettled history (map (λ s. s.journal) sessions.new)) }
     ensures of_store { IfOk result (λ history.
         All (λ s. IsHistoryOf S.accepts (origin_of s.first) history) sessions.new) }
+    ensures recorded { IfOk result (λ history. AreRecorded history.events) }
+    ensures know { IfOk result (λ history. All (λ s. Contains s.journal.known history) sessions.new) }
+    ensures knew { StillKnow sessions.old sessions.new }
+    ensures refused { IfErr result (AreUnsettled S.accepts sessions.old sessions.new) }
     ensures same { map kept sessions.new ≡ map kept sessions.old }
 {
     let given = sessions.len();
@@ -56,8 +62,11 @@ fn first_history<S: Scheme>(
     given: usize,
 ) -> Result<Front<S>, SettleFault>
     ensures part { IfOk result (λ history. IsPart S.accepts 0 history session.new) }
+    ensures found { IfOk result (λ history. HasFound S.accepts session.old session.new history given) }
     ensures below { IfOk result (λ history. All (λ e. e.session < given) history.events) }
+    ensures refused { IfErr result (IsNoFirst S.accepts given session.old session.new) }
     ensures few { OnOk result (given < 2 ^ 16) }
+    ensures knew { KnowsAll session.new.journal.known session.old.journal.known }
     ensures same { kept session.new ≡ kept session.old }
 {
     match session.history() {
@@ -82,6 +91,8 @@ fn compare<S: Scheme>(
 ) -> Result<(), SettleFault>
     requires { from + length sessions.old < 2 ^ 16 }
     ensures parts { OnOk result (AreParts S.accepts from history.now sessions.new) }
+    ensures refused { IfErr result (AreApart S.accepts from history.now sessions.old sessions.new) }
+    ensures knew { StillKnow sessions.old sessions.new }
     ensures same { map kept sessions.new ≡ map kept sessions.old }
 {
     match sessions.split_first_mut() {
@@ -100,6 +111,8 @@ fn compare_one<S: Scheme>(
     history: &Front<S>,
 ) -> Result<(), SettleFault>
     ensures part { OnOk result (IsPart S.accepts id history.now session.new) }
+    ensures refused { IfErr result (IsApart S.accepts id history.now session.old session.new) }
+    ensures knew { KnowsAll session.new.journal.known session.old.journal.known }
     ensures same { kept session.new ≡ kept session.old }
 {
     match session.history() {

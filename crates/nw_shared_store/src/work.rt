@@ -6,7 +6,7 @@ ghost use Rattle.nw_history.specs.Story.{state_of};
 ghost use Rattle.nw_book.specs.Answer.{IsTicketFor, front_of, reply_of};
 ghost use Rattle.nw_book.specs.Answered.{IsLookAfter};
 ghost use Rattle.nw_book.specs.Command.{call_of, committee_of};
-ghost use Rattle.nw_shared_store.specs.Locked.{IsEnded, IsEnrolled, IsFound, IsLocked, IsTaken, IsUntaken};
+ghost use Rattle.nw_shared_store.specs.Locked.{IsEnded, IsEnrolled, IsFound, IsFullOf, IsLocked, IsTaken, IsUntaken};
 ghost use Rattle.nw_shared_store.specs.Rule.{HasValue, IsSeatAt};
 
 use crate::rule::{Lock, Seat};
@@ -81,6 +81,7 @@ pub(crate) fn enrol_at<S: Scheme>(lock: &Lock<S>, seat: &mut Seat<S>) -> Option<
     ensures view { seat.new.me.0 ≡ seat.old.me.0 }
     ensures made { IfSome result (λ made. HasValue seat.old.me (λ g. HasValue seat.new.me (λ n.
         IsEnrolled S.accepts g n made.0 made.1))) }
+    ensures full { IfNone result (HasValue seat.old.me (IsFullOf S.accepts)) }
     ensures unchanged { IfNone result (seat.new.me ≡ seat.old.me) }
 {
     let locked = seat.slot_mut(&lock.shared, 0);

@@ -1,19 +1,7 @@
 -- The maps of slots that a copy of the tables makes, digest by digest.
-use Rattle.std.proofs.Common.{◌≡◌, ℕ, inr, List, [], ◌∷◌, ◌++◌, Option, Some, None, refl, sym, ap, ◌∙◌, subst}
-use Rattle.std.proofs.lemmas.Option.{same_Some}
-use Rattle.std.specs.Prelude.{Contains}
+use Rattle.nw_state.proofs.Words.{◌≡◌, ℕ, inr, List, [], ◌∷◌, ◌++◌, Option, Some, None, refl, sym, ap, ◌∙◌, subst, same_Some, Contains, insert_entry, FinMap, from_entries, get, Digest, Block, Certificate, Slot, slot_cmp, Wanted, State, block_slot, certificate_slot, HasAllDigests, Tables, IsSoundWithIndex, slots_apart, slots_total}
 use Rattle.std.specs.Option.{option_map}
-use Rattle.std.specs.BTreeMap.{insert_entry}
-use Rattle.std.specs.FinMap.{FinMap, from_entries, get}
-use Rattle.nw_digest.specs.declared.digest.Digest.{Digest}
-use Rattle.nw_codec.specs.declared.block.Block.{Block}
-use Rattle.nw_codec.specs.declared.certificate.Certificate.{Certificate}
-use Rattle.nw_digest.specs.Order.{Slot, slot_cmp}
-use Rattle.nw_model.specs.declared.wanted.Wanted.{Wanted}
-use Rattle.nw_model.specs.State.{State, block_slot, certificate_slot}
-use Rattle.nw_rounds.specs.Slots.{HasAllDigests, Tables}
-use Rattle.nw_model.specs.Sound.{IsIndex, IsSound, IsSoundWithIndex}
-use Rattle.nw_digest.proofs.Maps.{slots_apart, slots_total}
+use Rattle.nw_model.specs.Sound.{IsIndex, IsSound}
 use Rattle.nw_state.specs.StateTables.{AreStateTables, state_of}
 use Rattle.nw_state.specs.Standing.{name_of}
 use Rattle.nw_state.proofs.Gathered.{Gathers, gathers_entry, gathers_skip}

@@ -1,35 +1,20 @@
 -- The number of blocks that a collection drops.
-use Rattle.std.proofs.Common.{◌≡◌, ℕ, ◌-◌, ◌<◌, Bool, true, false, not, cond, List, [], ◌∷◌, filter, length, Option, Some, None, IsSome, is_some, refl, ap, sym, ◌∙◌, subst, arith, inl, inr}
-use Rattle.std.specs.Prelude.{Contains, nat_lt}
-use Rattle.std.specs.List.{IsDistinct, AllByRecursion}
-use Rattle.std.specs.Ordering.{eq_by_cmp}
-use Rattle.std.specs.Cmp.{eq_by_cmp_equiv}
-use Rattle.std.specs.Map.{keys_of, values_of, lookup}
-use Rattle.std.specs.BTreeMap.{is_at}
-use Rattle.std.specs.FinMap.{get, len, from_entries}
+use Rattle.nw_state.proofs.Words.{◌≡◌, ℕ, Bool, true, false, not, cond, List, [], ◌∷◌, filter, length, Option, Some, None, IsSome, is_some, refl, ap, sym, ◌∙◌, subst, arith, inl, inr, Contains, nat_lt, AllByRecursion, eq_by_cmp, eq_by_cmp_equiv, keys_of, lookup, is_at, get, len, from_entries, IsDistinct-from_sorted, Digest, Block, Certificate, Tables, digest_cmp, Slot, State, block_slot, raised, one_block, some_none, contains_cases, contains_none, digests_total, get_lookup, len_sorted, same_digest, which}
+use Rattle.std.proofs.Common.{◌-◌, ◌<◌}
+use Rattle.std.specs.List.{IsDistinct}
+use Rattle.std.specs.Map.{values_of}
 use Rattle.std.proofs.lemmas.List.Elements.{All-contains, All-from_recursion}
 use Rattle.std.proofs.lemmas.Map.Entries.{option_filter, lookup-filter-values, length-keys_of, length-values_of}
-use Rattle.std.proofs.lemmas.Map.Keys.{IsDistinct-cons, IsDistinct-from_sorted, IsDistinct-head, IsDistinct-tail}
+use Rattle.std.proofs.lemmas.Map.Keys.{IsDistinct-cons, IsDistinct-head, IsDistinct-tail}
 use Rattle.std.proofs.lemmas.Map.Made.{length-le_from_is_member, Contains-from_values_of, Contains-values_of, IsDistinct-keys_filter}
 use Rattle.std.proofs.lemmas.Map.Steps.{length-le_from_keys}
 use Rattle.std.proofs.lemmas.Map.Views.{Contains-from_any, list_any-from_Contains, IsSome-lookup_from_Contains}
 use Rattle.std.proofs.lemmas.Bool.{true≢false}
-use Rattle.nw_digest.specs.declared.digest.Digest.{Digest}
-use Rattle.nw_codec.specs.declared.block.Block.{Block}
-use Rattle.nw_codec.specs.declared.certificate.Certificate.{Certificate}
 use Rattle.nw_rounds.specs.declared.kind.DigestKind.{DigestKind}
 use Rattle.nw_rounds.specs.declared.kind.DigestKind.TheVariants.{First, Certified}
-use Rattle.nw_rounds.specs.Slots.{Tables}
 use Rattle.nw_rounds.specs.Places.{ArePlacesBetween, Place, place_cmp}
 use Rattle.nw_rounds.proofs.SlotLemmas.{places_total}
-use Rattle.nw_digest.specs.Order.{digest_cmp, Slot}
-use Rattle.nw_model.specs.State.{State, block_slot}
-use Rattle.nw_model.specs.Step.{raised}
-use Rattle.nw_model.proofs.Complete.{one_block}
-use Rattle.nw_model.proofs.Kept.{some_none}
-use Rattle.nw_digest.proofs.Elements.{contains_cases, contains_first, contains_later, contains_none, contains_filter}
-use Rattle.nw_digest.proofs.Maps.{digests_total, get_lookup, len_sorted, same_digest}
-use Rattle.nw_digest.proofs.Found.{which}
+use Rattle.nw_digest.proofs.Elements.{contains_first, contains_later, contains_filter}
 use Rattle.nw_state.specs.StateTables.{AreStateTables, state_of}
 use Rattle.nw_state.specs.Collection.{counts_at}
 use Rattle.nw_state.proofs.HeldRaised.{certified_slot}

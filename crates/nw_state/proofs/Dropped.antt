@@ -1,28 +1,13 @@
 -- Entries before and after values of lower rounds are dropped.
-use Rattle.std.proofs.Common.{◌≡◌, ◌⊎◌, ℕ, ◌+◌, ◌≤◌, Bool, true, false, cond, List, [], ◌∷◌, ◌++◌, filter, length, Option, Some, None, refl, ap, sym, ◌∙◌, subst, arith, inl, inr}
-use Rattle.std.specs.Prelude.{Contains, nat_le, nat_lt}
-use Rattle.std.specs.declared.cmp.Ordering.{Ordering}
-use Rattle.std.specs.declared.cmp.Ordering.TheVariants.{Less}
-use Rattle.std.specs.List.{AllByRecursion}
+use Rattle.nw_state.proofs.Words.{◌≡◌, ◌⊎◌, ℕ, ◌+◌, ◌≤◌, Bool, true, false, cond, List, [], ◌∷◌, ◌++◌, filter, length, Option, Some, None, refl, ap, sym, ◌∙◌, subst, arith, inl, inr, Contains, nat_lt, Ordering, Less, AllByRecursion, eq_by_cmp, eq_by_cmp_equiv, keys_of, lookup, remove_entry, is_at, len, from_entries, same_map, Contains-push_cases, IsDistinct-from_sorted, none-some, same_Some, Digest, digest_cmp, from_round, contains_cases, contains_none, digests_total, digests_apart, get_lookup, len_sorted, same_digest}
+use Rattle.std.specs.Prelude.{nat_le}
 use Rattle.std.specs.List.Sorted.{IsStrictlySortedBy}
-use Rattle.std.specs.Ordering.{eq_by_cmp}
 use Rattle.std.specs.Option.{option_map_or}
-use Rattle.std.specs.Cmp.{eq_by_cmp_equiv}
-use Rattle.std.specs.Map.{keys_of, lookup, remove_entry}
-use Rattle.std.specs.BTreeMap.{is_at}
-use Rattle.std.specs.FinMap.{len, from_entries, same_map}
 use Rattle.std.proofs.lemmas.Bool.{cases_lt, le-leb, lt-leb}
-use Rattle.std.proofs.lemmas.List.Elements.{Contains-push_cases}
 use Rattle.std.proofs.lemmas.List.Filters.{length-filter_both}
 use Rattle.std.proofs.lemmas.Map.{lookup-remove_entry}
-use Rattle.std.proofs.lemmas.Map.Keys.{IsDistinct-from_sorted, sorted_head, sorted_tail}
-use Rattle.std.proofs.lemmas.Option.{none-some, same_Some}
+use Rattle.std.proofs.lemmas.Map.Keys.{sorted_head, sorted_tail}
 use Rattle.nw_plain.proofs.Dropped.{not_below, sorted_cons, sorted_filter}
-use Rattle.nw_digest.specs.declared.digest.Digest.{Digest}
-use Rattle.nw_digest.specs.Order.{digest_cmp}
-use Rattle.nw_model.specs.Step.{from_round}
-use Rattle.nw_digest.proofs.Elements.{contains_cases, contains_none}
-use Rattle.nw_digest.proofs.Maps.{digests_total, digests_apart, get_lookup, len_sorted, same_digest}
 use Rattle.nw_model.proofs.Raised.{at_round, filtered_round}
 use Rattle.nw_state.specs.Dropping.{IsBelowRound, DropsBelow}
 

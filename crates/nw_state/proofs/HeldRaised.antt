@@ -1,17 +1,6 @@
 -- The tables after a collection.
-use Rattle.std.proofs.Common.{◌≡◌, ℕ, ◌+◌, ◌≤◌, List, Some, refl, sym, ap, ◌∙◌, subst, arith, inl, inr}
-use Rattle.std.specs.FinMap.{get, len, from_entries}
-use Rattle.std.proofs.lemmas.Map.Keys.{IsDistinct-from_sorted}
-use Rattle.nw_digest.specs.declared.digest.Digest.{Digest}
-use Rattle.nw_codec.specs.declared.block.Block.{Block}
-use Rattle.nw_codec.specs.declared.certificate.Certificate.{Certificate}
-use Rattle.nw_rounds.specs.Slots.{Tables, AreDigestsBetween}
-use Rattle.nw_digest.specs.Order.{digest_cmp, Slot}
-use Rattle.nw_model.specs.State.{State, block_slot, certificate_slot}
-use Rattle.nw_model.specs.Step.{raised, from_round}
-use Rattle.nw_model.specs.Sound.{IsSoundWithIndex}
-use Rattle.nw_model.proofs.Complete.{one_block}
-use Rattle.nw_digest.proofs.Maps.{get_lookup, digests_total}
+use Rattle.nw_state.proofs.Words.{◌≡◌, ℕ, ◌+◌, ◌≤◌, List, Some, refl, sym, ap, ◌∙◌, subst, arith, inl, inr, get, len, from_entries, IsDistinct-from_sorted, Digest, Block, Certificate, Tables, digest_cmp, Slot, State, block_slot, certificate_slot, raised, from_round, IsSoundWithIndex, one_block, get_lookup, digests_total}
+use Rattle.nw_rounds.specs.Slots.{AreDigestsBetween}
 use Rattle.nw_model.proofs.Raised.{is_kept, kept_raised, slots_from, slot_is_kept, slot_was_there, was_there}
 use Rattle.nw_state.specs.StateTables.{AreStateTables, state_of}
 use Rattle.nw_state.specs.Dropping.{DropsBelow}

@@ -1,14 +1,7 @@
 -- A state in which nothing is held.
-use Rattle.std.proofs.Common.{◌≡◌, [], Some, sym, ◌∙◌}
-use Rattle.std.proofs.lemmas.Option.{none-some}
+use Rattle.nw_state.proofs.Words.{◌≡◌, [], Some, sym, ◌∙◌, none-some, eq_by_cmp, get, from_entries, get-empty, Digest, Block, digest_cmp, Slot, slot_cmp, block_slot}
 use Rattle.std.specs.List.{IsDistinct}
-use Rattle.std.specs.Ordering.{eq_by_cmp}
-use Rattle.std.specs.FinMap.{get, from_entries, get-empty}
-use Rattle.nw_digest.specs.declared.digest.Digest.{Digest}
-use Rattle.nw_codec.specs.declared.block.Block.{Block}
 use Rattle.nw_rounds.specs.Slots.{no_digests}
-use Rattle.nw_digest.specs.Order.{digest_cmp, Slot, slot_cmp}
-use Rattle.nw_model.specs.State.{block_slot}
 use Rattle.nw_state.specs.StateTables.{IsListed}
 
 pub none_once : IsDistinct (eq_by_cmp digest_cmp) []

@@ -1,25 +1,11 @@
 -- The tables after one more block or certificate.
-use Rattle.std.proofs.Common.{◌≡◌, ◌⊎◌, ℕ, ◌≤◌, true, false, not, Bool, List, [], ◌∷◌, Option, Some, None, IsSome, is_some, cond, refl, ap, sym, ◌∙◌, subst, inl, inr}
+use Rattle.nw_state.proofs.Words.{◌≡◌, ◌⊎◌, ℕ, ◌≤◌, true, false, not, Bool, List, [], ◌∷◌, Option, Some, None, IsSome, is_some, cond, refl, ap, sym, ◌∙◌, subst, inl, inr, Ordering, Less, eq_by_cmp_equiv, lookup, remove_entry, is_at, insert_entry, FinMap, get, insert, from_entries, Digest, Block, Certificate, Tables, digest_cmp, Slot, slot_cmp, State, block_slot, certificate_slot, is_digest, certified_digest, IsSoundWithIndex, index_answers, some_none, same_digest_decides, put_entries, digests_total, digests_apart}
 use Rattle.std.specs.Option.{option_and_then}
-use Rattle.std.specs.declared.cmp.Ordering.{Ordering}
-use Rattle.std.specs.declared.cmp.Ordering.TheVariants.{Less, Equal, Greater}
+use Rattle.std.specs.declared.cmp.Ordering.TheVariants.{Equal, Greater}
 use Rattle.std.specs.Ordering.{is_eq, match_ordering}
-use Rattle.std.specs.Cmp.{eq_by_cmp_equiv}
-use Rattle.std.specs.Map.{lookup, remove_entry}
-use Rattle.std.specs.BTreeMap.{is_at, insert_entry}
-use Rattle.std.specs.FinMap.{FinMap, get, insert, from_entries}
-use Rattle.nw_digest.specs.declared.digest.Digest.{Digest}
-use Rattle.nw_codec.specs.declared.block.Block.{Block}
-use Rattle.nw_codec.specs.declared.certificate.Certificate.{Certificate}
-use Rattle.nw_rounds.specs.Slots.{Tables}
 use Rattle.nw_trie.proofs.Inserts.{sorted_insert}
-use Rattle.nw_digest.specs.Order.{digest_cmp, Slot, slot_cmp}
-use Rattle.nw_model.specs.State.{State, block_slot, certificate_slot}
-use Rattle.nw_model.specs.Step.{has_other_slot, is_digest, other_first, with_block, with_certificate, certified_digest}
-use Rattle.nw_model.specs.Sound.{IsSoundWithIndex}
-use Rattle.nw_model.proofs.Kept.{kept_written, index_with_certificate, sound_with_certificate, index_answers, after_insert, after_slot, at_insert, at_slot, still_insert, still_slot, some_none}
-use Rattle.nw_model.proofs.Sames.{same_digest_decides}
-use Rattle.nw_digest.proofs.Maps.{put_entries, digests_total, digests_apart}
+use Rattle.nw_model.specs.Step.{has_other_slot, other_first, with_block, with_certificate}
+use Rattle.nw_model.proofs.Kept.{kept_written, index_with_certificate, sound_with_certificate, after_insert, after_slot, at_insert, at_slot, still_insert, still_slot}
 use Rattle.nw_state.specs.StateTables.{AreStateTables, IsListed, state_of}
 
 -- a value that is inserted at a free digest and removed again

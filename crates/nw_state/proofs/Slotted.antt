@@ -1,23 +1,13 @@
 -- The slots of a store tell which digests stand, and which authors have digests.
-use Rattle.std.proofs.Common.{◌≡◌, ◌↔◌, ◌⊎◌, ℕ, List, Option, Some, None, IsSome, sym, ap, ◌∙◌, subst}
-use Rattle.std.specs.Prelude.{Contains}
+use Rattle.nw_state.proofs.Words.{◌≡◌, ◌↔◌, ◌⊎◌, ℕ, inl, inr, List, Option, Some, None, IsSome, sym, ap, ◌∙◌, subst, Contains, get, Digest, Block, Certificate, Wanted, Tables, Slot, which, State, block_slot, is_digest, index_answers, same_digest_decides}
 use Rattle.std.specs.Ordering.{nat_cmp}
 use Rattle.std.specs.Bool.{Decides}
 use Rattle.std.specs.Option.{option_eq}
-use Rattle.std.specs.FinMap.{get}
-use Rattle.nw_digest.specs.declared.digest.Digest.{Digest}
-use Rattle.nw_codec.specs.declared.block.Block.{Block}
-use Rattle.nw_codec.specs.declared.certificate.Certificate.{Certificate}
-use Rattle.nw_model.specs.declared.wanted.Wanted.{Wanted}
-use Rattle.nw_rounds.specs.Slots.{AreAuthorsAt, Tables}
-use Rattle.nw_digest.specs.Order.{Slot}
-use Rattle.nw_digest.proofs.Found.{which, is_there}
-use Rattle.nw_model.specs.State.{State, block_slot}
-use Rattle.nw_model.specs.Step.{is_digest}
-use Rattle.nw_model.specs.Look.{HasDigest}
+use Rattle.nw_rounds.specs.Slots.{AreAuthorsAt}
+use Rattle.nw_rounds.specs.Slots.{IsNewest as IsNewestAt}
+use Rattle.nw_digest.proofs.Found.{is_there}
+use Rattle.nw_model.specs.Look.{HasDigest, IsNewest}
 use Rattle.nw_model.specs.Missing.{ListsExactly}
-use Rattle.nw_model.proofs.Kept.{index_answers}
-use Rattle.nw_model.proofs.Sames.{same_digest_decides}
 use Rattle.nw_state.specs.StateTables.{AreStateTables, state_of}
 use Rattle.nw_state.specs.Standing.{IsMet}
 use Rattle.nw_state.proofs.HeldRaised.{certified_slot}
@@ -52,6 +42,23 @@ module _ (blocks : List (Digest × Block)) (certificates : List (Digest × Certi
 
   pub met_held : IsMet s w → IsSome (get s.blocks w.digest)
   met_held (b, (there, some), author, round) = is_there (get s.blocks w.digest) b there
+
+-- a slot has a digest exactly if it has one in the state
+slot_tells : (blocks : List (Digest × Block)) (certificates : List (Digest × Certificate)) (slots : Tables) (floor : ℕ) (held : AreStateTables blocks certificates slots floor) (slot : Slot)
+    → (IsSome (get slots.firsts slot) ⊎ IsSome (get slots.certified slot)) ≡ HasDigest (state_of blocks certificates slots floor) slot
+slot_tells blocks certificates slots floor held slot = ap (λ found. IsSome (get slots.firsts slot) ⊎ IsSome found) (index_answers (state_of blocks certificates slots floor) slots.certified slot held.kept.indexed)
+
+-- the newest round with a digest is that of the state
+pub newest_round : (blocks : List (Digest × Block)) (certificates : List (Digest × Certificate)) (slots : Tables) (floor : ℕ) (held : AreStateTables blocks certificates slots floor) (round : ℕ) → IsNewestAt slots floor round
+    → IsNewest (state_of blocks certificates slots floor) round
+newest_round blocks certificates slots floor held round is = record {
+  floor = is.least_first;
+  last = λ slot has. is.last slot (subst (λ T. T) (sym (slot_tells blocks certificates slots floor held slot)) has);
+  some = elim is.some [
+    | inl same ↦ inl same
+    | inr (author, has) ↦ inr (author, subst (λ T. T) (slot_tells blocks certificates slots floor held (round, author)) has)
+  ];
+}
 
 -- the authors with digests in a round are those of the state
 pub listed_authors : (blocks : List (Digest × Block)) (certificates : List (Digest × Certificate)) (slots : Tables) (floor : ℕ) (held : AreStateTables blocks certificates slots floor) (round : ℕ) (authors : List ℕ) → AreAuthorsAt slots round authors

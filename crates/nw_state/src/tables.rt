@@ -8,7 +8,7 @@ ghost use Rattle.std.specs.FinMap as map;
 ghost use Rattle.nw_digest.specs.declared.digest.Digest.{Digest};
 ghost use Rattle.nw_model.specs.State.{opening, block_slot, certificate_slot};
 ghost use Rattle.nw_model.specs.Sound.{IsSound};
-ghost use Rattle.nw_model.specs.Look.{HasDigest};
+ghost use Rattle.nw_model.specs.Look.{HasDigest, IsNewest};
 ghost use Rattle.nw_model.specs.Missing.{ListsExactly};
 ghost use Rattle.nw_state.specs.Standing.{Stands, IsMet, name_of};
 ghost use Rattle.nw_model.specs.Step.{certified_digest, has_other_slot, other_first, with_block};
@@ -108,9 +108,10 @@ impl StateTables {
         self.certificates.get(digest)
     }
 
-    /// The first digest of the round and author, if there is one.
+    /// The first digest of the round and author, if there is one. Its block is held.
     pub fn first(&self, round: Round, author: u16) -> Option<Digest>
-        ensures { result ≡ map.get self.now.state.firsts (round, author) }
+        ensures value { result ≡ map.get self.now.state.firsts (round, author) }
+        ensures held { IfSome result (λ digest. IsSome (map.get self.now.state.blocks digest)) }
     {
         self.slots.first(round, author)
     }
@@ -121,6 +122,13 @@ impl StateTables {
         ensures sound { IsSound self.now.state }
     {
         self.slots.certified(round, author)
+    }
+
+    /// The newest round with a first or a certified digest, or the garbage round if none is newer. Allocates nothing.
+    pub fn newest(&self) -> Round
+        ensures { IsNewest self.now.state result }
+    {
+        self.slots.newest(self.floor)
     }
 
     /// The authors with a first or a certified digest in the round, ascending. `NoMemory` if allocation fails.

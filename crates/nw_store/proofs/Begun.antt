@@ -1,14 +1,6 @@
 -- Fronts that are prefixes of one history.
-use Rattle.std.proofs.Common.{◌≡◌, ℕ, ◌+◌, List, [], ◌∷◌, ◌++◌, length, subst, arith}
-use Rattle.std.specs.Prelude.{All}
-use Rattle.std.specs.List.{Contains}
-use Rattle.std.proofs.lemmas.List.Elements.{All-push, All-weaker, All-contains, Contains-append_left}
-use mathlib.Core.List.{IsPrefix}
-use Rattle.nw_model.specs.declared.event.Event.{Event}
-use Rattle.nw_history.specs.Story.{Story, with_event}
-use Rattle.nw_history.specs.Prefix.{IsPrefixOf}
-use Rattle.nw_book.specs.Answer.{AnswerView}
-use Rattle.nw_book.specs.Journal.{ArePrefixesOf}
+use Rattle.nw_store.proofs.Words.{◌≡◌, ℕ, ◌+◌, List, [], ◌∷◌, ◌++◌, length, subst, arith, All, Contains, All-push, IsPrefix, Event, Story, with_event, IsPrefixOf, AnswerView, ArePrefixesOf}
+use Rattle.std.proofs.lemmas.List.Elements.{All-weaker, All-contains, Contains-append_left}
 use Rattle.nw_store.specs.Lock.{AnswersCall, AreAnswers, AreAmong}
 use Rattle.nw_book.proofs.Prefixes.{prefix_itself, prefix_trans, prefix_next}
 

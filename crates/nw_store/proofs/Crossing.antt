@@ -1,17 +1,17 @@
 -- A closure's captures, or a tuple, may be sent to another thread if each part may be sent, and shared between threads if each part may
 -- be shared.
 -- `captures_send` and `captures_sync` find the parts by unification; `along_send` and `along_sync` take a proof for each part, in order.
+use Rattle.nw_store.proofs.Words.{RattleType, IsSend, IsSync, declared_send, declared_sync}
 use mathlib.Core.List.{List, [], ◌∷◌}
 use Prim.Native.Nat.{ℕ}
 use mir.Syntax.{Sym, Ty}
 use denote.Exit.{no}
-use denote.RattleType.{RattleType}
 use denote.Param.{param, arg}
 use denote.Struct.Tuple.{type_at, TupleAt}
 use denote.Struct.Tuple as tuple
 use denote.Struct.Field.{row_field}
-use denote.Param.Send.{IsSend, IsSync, AllSend, AllSync, param_send, param_sync, arg_send, arg_sync}
-use denote.Param.SendFields.{FieldsHave, as_row_send, as_row_sync, declared_send, declared_sync}
+use denote.Param.Send.{AllSend, AllSync, param_send, param_sync, arg_send, arg_sync}
+use denote.Param.SendFields.{FieldsHave, as_row_send, as_row_sync}
 
 parts_send : (Ts : List RattleType) → AllSend Ts → FieldsHave IsSend (tuple.parts Ts)
 parts_send [] s = tt

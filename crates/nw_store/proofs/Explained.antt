@@ -1,15 +1,11 @@
 -- What was known under the lock still holds after its release: first for an answer, then for a refusal.
-use Rattle.std.proofs.Common.{List, Option, Result, Ok, Err}
-use Rattle.std.specs.Result.{IfOk, IfErr}
+use Rattle.nw_store.proofs.Words.{List, Result, Ok, Err, IfOk, Meaning, Call, Reply, Story, Origin, Journal, IsHistoryOf, next_in_journal, IsAnswered}
+use Rattle.std.proofs.Common.{Option}
+use Rattle.std.specs.Result.{IfErr}
 use Rattle.nw_committee.specs.declared.member.Member.{Member}
-use Rattle.nw_sig.specs.Signed.{Meaning}
-use Rattle.nw_model.specs.declared.call.Call.{Call}
-use Rattle.nw_model.specs.declared.reply.Reply.{Reply}
-use Rattle.nw_history.specs.Story.{Story, Origin}
 use Rattle.nw_book.specs.Turn.{IsRefusal}
 use Rattle.nw_book.specs.declared.error.NoStep.{NoStep}
-use Rattle.nw_book.specs.Journal.{Journal, IsHistoryOf, next_in_journal}
-use Rattle.nw_book.specs.Answered.{IsAnswered, IsExplained, TakesNoStep}
+use Rattle.nw_book.specs.Answered.{IsExplained, TakesNoStep}
 
 pub explained : {A E : Type 0} (accepts : Meaning) (origin : Origin) (h : Story) (old new : Journal) (asked : Call) (reply_of : A → Reply) (front_of : A → Story) (r : Result A E)
     → IsHistoryOf accepts origin h → IfOk r (λ a. IsAnswered accepts h old new asked (reply_of a) (front_of a)) → IfOk r (λ a. IsExplained accepts origin old new asked (reply_of a) (front_of a))

@@ -1,23 +1,15 @@
 -- Journals whose fronts are prefixes of one history, and which have as many answers as it has events: the history is an interleaving of
 -- them.
-use Rattle.std.proofs.Common.{◌≡◌, ◌≢◌, ℕ, zero, suc, ◌+◌, ◌<◌, ◌≤◌, Bool, true, false, cond, List, [], ◌∷◌, ◌++◌, length, ⊎_elim, refl, sym, ap, ◌∙◌, subst, arith, Some}
-use Rattle.std.specs.Prelude.{◌==◌, slice_get, All, sum_by}
+use Rattle.nw_store.proofs.Words.{◌≡◌, ◌≢◌, ℕ, zero, suc, ◌+◌, ◌<◌, ◌≤◌, true, false, cond, List, [], ◌∷◌, ◌++◌, length, ⊎_elim, refl, sym, ap, ◌∙◌, subst, arith, Some, ◌==◌, slice_get, All, sum_by, eqb_tells, sum_by-cons, All-cons, IsPrefix, Event, events_of, AreNumbered, Story, AnswerView, Journal, ArePrefixesOf, comparable}
+use Rattle.std.proofs.Common.{Bool}
 use Rattle.std.proofs.lemmas.Bool.{eq-eqb}
-use Rattle.std.proofs.lemmas.Bool.Decides.{eqb_tells}
 use Rattle.std.proofs.lemmas.List.{length-map}
-use Rattle.std.proofs.lemmas.List.Sums.{sum_by-cons}
-use Rattle.std.proofs.lemmas.List.Elements.{All-nil, All-cons}
-use mathlib.Core.List.{IsPrefix}
-use Rattle.nw_model.specs.declared.event.Event.{Event}
-use Rattle.nw_model.specs.History.{events_of, AreNumbered}
-use Rattle.nw_history.specs.Story.{Story}
+use Rattle.std.proofs.lemmas.List.Elements.{All-nil}
 use Rattle.nw_history.proofs.Prefixes.{no_longer}
-use Rattle.nw_book.specs.Answer.{AnswerView}
-use Rattle.nw_book.specs.Journal.{Journal, ArePrefixesOf}
 use Rattle.nw_store.specs.Lock.{Guarded, AreAnswers}
 use Rattle.nw_book.specs.Settled.{events_in, AreSettled}
 use Rattle.nw_store.specs.Settled.{AreInOrder, AreAllComparable}
-use Rattle.nw_book.proofs.Prefixes.{comparable, prefix_whole}
+use Rattle.nw_book.proofs.Prefixes.{prefix_whole}
 
 -- the events of each front are a prefix of these events
 abbrev AreBegunBy : List Event → List AnswerView → Type 0

@@ -1,16 +1,10 @@
 -- The invariants of the lock and of a session, after one more answer.
-use Rattle.std.proofs.Common.{◌≡◌, ℕ, ◌+◌, ◌<◌, ◌≤◌, List, [], ◌∷◌, ◌++◌, length, sym, ap, ◌∙◌, subst, arith, length-append}
-use Rattle.std.specs.Prelude.{All}
-use Rattle.std.specs.List.{Contains}
-use Rattle.std.proofs.lemmas.List.Elements.{All-push, Contains-push}
-use mathlib.Core.List.{IsPrefix}
-use Rattle.nw_sig.specs.Signed.{Meaning}
-use Rattle.nw_model.specs.declared.event.Event.{Event}
+use Rattle.nw_store.proofs.Words.{◌≡◌, ℕ, ◌+◌, ◌<◌, ◌≤◌, List, [], ◌∷◌, ◌++◌, length, sym, ap, ◌∙◌, subst, arith, All, Contains, All-push, IsPrefix, Meaning, Event, Story, Origin, with_event, IsPrefixOf, AnswerView, Journal}
+use Rattle.std.proofs.Common.{length-append}
+use Rattle.std.proofs.lemmas.List.Elements.{Contains-push}
 use Rattle.nw_history.specs.Limits.{AreInRange}
-use Rattle.nw_history.specs.Story.{Story, Origin, IsLegalStory, with_event}
-use Rattle.nw_history.specs.Prefix.{IsPrefixOf}
-use Rattle.nw_book.specs.Answer.{AnswerView}
-use Rattle.nw_book.specs.Journal.{Journal, origin_of}
+use Rattle.nw_history.specs.Story.{IsLegalStory}
+use Rattle.nw_book.specs.Journal.{origin_of}
 use Rattle.nw_store.specs.Lock.{AnswersCall, AreAnswers, AreAmong, IsLocked, IsSession}
 use Rattle.nw_store.proofs.Begun.{among_longer, log_more, answers_last}
 

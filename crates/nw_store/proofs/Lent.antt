@@ -1,5 +1,6 @@
 -- The items of a vector after a slice of all of it was borrowed mutably.
-use Rattle.std.proofs.Common.{◌≡◌, ℕ, List, [], ◌∷◌, ◌++◌, length, take, drop, refl, ap, subst}
+use Rattle.nw_store.proofs.Words.{◌≡◌, ℕ, List, [], ◌∷◌, ◌++◌, length, refl, ap, subst}
+use Rattle.std.proofs.Common.{take, drop}
 
 take_whole : {X : Type 0} (ys zs : List X) → take (length ys) (ys ++ zs) ≡ ys
 take_whole [] zs = refl

@@ -1,3 +1,4 @@
+pub mod Words
 pub mod Begun
 pub mod Crossing
 pub mod Kept

@@ -1,13 +1,11 @@
 -- Journals in the order of their ids, and which ids those are.
-use Rattle.std.proofs.Common.{◌≡◌, ◌≢◌, ◌⊎◌, ℕ, zero, suc, ◌+◌, ◌<◌, ◌≤◌, true, false, cond, List, [], ◌∷◌, length, inl, inr, ⊎_elim, refl, sym, ap, ◌∙◌, subst, arith}
-use Rattle.std.specs.Prelude.{◌==◌, All, sum_by}
+use Rattle.nw_store.proofs.Words.{◌≡◌, ◌≢◌, ℕ, zero, suc, ◌+◌, ◌<◌, ◌≤◌, true, false, cond, List, [], ◌∷◌, length, ⊎_elim, refl, sym, ap, ◌∙◌, subst, arith, ◌==◌, All, sum_by, IsPermutation, eqb_tells, sum_by-cons, length_permutation, sum_by-IsPermutation, Journal}
+use Rattle.std.proofs.Common.{◌⊎◌, inl, inr}
 use lib.Dec.{leb}
 use Rattle.std.specs.List.{range_with_len}
-use Rattle.std.specs.List.Sorted.{IsPermutation, IsNonDecreasingBy}
-use Rattle.std.proofs.lemmas.Bool.Decides.{eqb_tells, leb_tells}
-use Rattle.std.proofs.lemmas.List.Sums.{sum_by-cons}
-use Rattle.std.proofs.lemmas.List.Sorted.{IsPermutation-map, IsPermutation-refl, length_permutation, sum_by-IsPermutation}
-use Rattle.nw_book.specs.Journal.{Journal}
+use Rattle.std.specs.List.Sorted.{IsNonDecreasingBy}
+use Rattle.std.proofs.lemmas.Bool.Decides.{leb_tells}
+use Rattle.std.proofs.lemmas.List.Sorted.{IsPermutation-map, IsPermutation-refl}
 use Rattle.nw_store.specs.Lock.{Guarded}
 use Rattle.nw_store.specs.Settled.{AreInOrder, AreAllSessions, ids_of}
 use Rattle.nw_store.specs.Fault.{IsStray, times}

@@ -1,7 +1,6 @@
 -- Sessions and notes may be sent to another thread, and stores may be shared between threads.
-use denote.RattleType.{RattleType}
-use denote.Param.Send.{IsSend, IsSync, sendable, view_send}
-use denote.Param.SendFields.{declared_send, declared_sync}
+use Rattle.nw_store.proofs.Words.{RattleType, IsSend, IsSync, declared_send, declared_sync}
+use denote.Param.Send.{sendable, view_send}
 use Rattle.std.proofs.Crossing.{crosses}
 use Rattle.std.specs.declared.sync.ledger.Ledger.{Ghosts as LedgerGhosts}
 use Rattle.std.proofs.sync.ledger.Book.TheSendSync as counted

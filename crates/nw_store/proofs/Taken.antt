@@ -1,14 +1,7 @@
 -- The lock and the session after the step of one call: the book has the history `next`, the log gets the front that is lent, each count gets one
 -- more, and the journal gets the answer `kept`.
-use Rattle.std.proofs.Common.{◌≡◌, ℕ, ◌+◌, List, [], ◌∷◌, ◌++◌, length, refl, sym, ap, ◌∙◌, subst, arith}
-use mathlib.Core.List.{IsPrefix}
-use Rattle.nw_sig.specs.Signed.{Meaning}
-use Rattle.nw_model.specs.declared.call.Call.{Call}
-use Rattle.nw_model.specs.declared.event.Event.{Event}
-use Rattle.nw_model.specs.declared.reply.Reply.{Reply}
-use Rattle.nw_history.specs.Story.{Story, with_event}
-use Rattle.nw_book.specs.Answer.{AnswerView, Takes}
-use Rattle.nw_book.specs.Answered.{IsAnswered}
+use Rattle.nw_store.proofs.Words.{◌≡◌, ℕ, ◌+◌, List, [], ◌∷◌, ◌++◌, length, refl, sym, ap, ◌∙◌, subst, arith, IsPrefix, Meaning, Call, Event, Reply, Story, with_event, AnswerView, IsAnswered}
+use Rattle.nw_book.specs.Answer.{Takes}
 use Rattle.nw_book.specs.Turn.{event}
 use Rattle.nw_book.proofs.Answered.{answered}
 use Rattle.nw_store.specs.Lock.{IsLocked, IsSession}

@@ -1,10 +1,7 @@
 -- Bytes with the same bits.
-use Rattle.std.proofs.Common.{◌≡◌, ◌∙◌, ℕ, ◌+◌, ◌-◌, ◌*◌, ◌/◌, ◌%◌, ◌^◌, ◌<◌, ◌≤◌, true, false, zero, suc, refl, sym, ap, arith, inl, inr}
-use Rattle.std.specs.Prelude.{◌==◌}
-use Rattle.std.proofs.lemmas.Bool.{eqb-true, eqb-false, cases_lt}
+use Rattle.nw_trie.proofs.Words.{◌≡◌, ◌∙◌, ℕ, ◌+◌, ◌-◌, ◌*◌, ◌/◌, ◌%◌, ◌^◌, ◌<◌, ◌≤◌, true, false, zero, suc, refl, sym, ap, arith, inl, inr, ◌==◌, eqb-true, eqb-false, cases_lt, div-div-eq-div-mul, pow-suc, eqb}
 use Rattle.std.proofs.lemmas.Nat.{le-div}
-use Rattle.std.proofs.Math.Nat.{div-div-eq-div-mul, div-mul-le_self, pow-suc}
-use lib.Dec.{eqb}
+use Rattle.std.proofs.Math.Nat.{div-mul-le_self}
 use Rattle.nw_trie.specs.Bits.{byte_bit}
 
 -- if two numbers are both odd or both even, their last bits are equal

@@ -1,19 +1,9 @@
 -- How a lookup descends to the value of a digest.
-use Rattle.std.proofs.Common.{Bor, suc, ◌≡◌, ◌∙◌, inl, inr, ℕ, ◌+◌, ◌<◌, Bool, true, false, cond, List, Option, Some, None, [], ◌∷◌, ◌++◌, Box, length, refl, sym, ap, subst, arith}
-use Rattle.std.specs.Map.{keys_of, lookup}
-use Rattle.std.specs.Prelude.{is_some}
-use Rattle.std.specs.Option.{option_copied}
-use Rattle.std.specs.Ordering.{is_eq, ordering_reverse}
-use Rattle.std.specs.declared.cmp.Ordering.TheVariants.{Less, Equal, Greater}
-use Rattle.std.specs.BTreeMap.{insert_entry, is_at}
+use Rattle.nw_trie.proofs.Words.{Bor, suc, ◌≡◌, ◌∙◌, inl, inr, ℕ, ◌+◌, ◌<◌, Bool, true, false, cond, List, Option, Some, None, [], ◌∷◌, ◌++◌, Box, length, refl, sym, ap, subst, arith, keys_of, lookup, is_some, option_copied, is_eq, ordering_reverse, Less, Equal, Greater, insert_entry, is_at, cases_lt, Digest, digest_cmp, digests_total}
 use Rattle.std.specs.List.Sorted.{IsStrictlySortedBy}
-use Rattle.std.proofs.lemmas.Bool.{cases_lt}
-use Rattle.nw_digest.specs.declared.digest.Digest.{Digest}
 use Rattle.nw_trie.specs.declared.tree.Link.{Link}
 use Rattle.nw_trie.specs.declared.tree.Link.TheVariants.{Empty, Leaf, Fork}
 use Rattle.nw_trie.specs.declared.tree.Sides.{Sides}
-use Rattle.nw_digest.specs.Order.{digest_cmp}
-use Rattle.nw_digest.proofs.Maps.{digests_total}
 use Rattle.nw_trie.specs.Bits.{AgreeBelow, AgreeButLast, bit_of}
 use Rattle.nw_trie.specs.Entries.{EachKey, HasKey, IsFork}
 use Rattle.nw_trie.specs.Tree.{side_of}

@@ -1,11 +1,6 @@
 -- The first bits of a digest, read from its first three bytes.
-use Rattle.std.proofs.Common.{◌≡◌, ◌∙◌, ℕ, zero, suc, ◌+◌, ◌-◌, ◌*◌, ◌/◌, ◌%◌, ◌^◌, ◌<◌, true, false, cond, get_or, refl, sym, ap, arith, inl, inr}
-use Rattle.std.specs.Prelude.{◌==◌}
-use Rattle.std.proofs.lemmas.Bool.{eqb-true, eqb-false, cases_lt}
-use Rattle.std.proofs.Math.Nat.{div-div-eq-div-mul, pow-suc}
+use Rattle.nw_trie.proofs.Words.{◌≡◌, ◌∙◌, ℕ, zero, suc, ◌+◌, ◌-◌, ◌*◌, ◌/◌, ◌%◌, ◌^◌, ◌<◌, true, false, cond, get_or, refl, sym, ap, arith, inl, inr, ◌==◌, eqb-true, eqb-false, cases_lt, div-div-eq-div-mul, pow-suc, eqb, Digest}
 use Rattle.std.proofs.lemmas.Nat.{pow-add}
-use lib.Dec.{eqb}
-use Rattle.nw_digest.specs.declared.digest.Digest.{Digest}
 use Rattle.nw_trie.specs.Bits.{bit_of}
 use Rattle.nw_trie.specs.Places.{place_of}
 

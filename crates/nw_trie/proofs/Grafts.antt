@@ -1,18 +1,9 @@
 -- How a digest descends to its place, and the entries after an insertion there.
-use Rattle.std.proofs.Common.{◌≡◌, ◌∙◌, inl, inr, ℕ, ◌+◌, ◌<◌, ◌≤◌, Bool, true, false, cond, List, [], ◌∷◌, ◌++◌, Option, Some, None, Box, length, refl, sym, ap, subst, arith, length-append}
-use Rattle.std.specs.Ordering.{is_eq, match_ordering}
-use Rattle.std.specs.declared.cmp.Ordering.TheVariants.{Equal}
-use Rattle.std.specs.Option.{MatchOption}
-use Rattle.std.specs.Map.{lookup}
-use Rattle.std.specs.BTreeMap.{insert_entry, is_at}
-use Rattle.std.proofs.lemmas.Bool.{cases_lt}
-use Rattle.nw_digest.specs.declared.digest.Digest.{Digest}
+use Rattle.nw_trie.proofs.Words.{◌≡◌, ◌∙◌, inl, inr, ℕ, ◌+◌, ◌<◌, ◌≤◌, Bool, true, false, cond, List, [], ◌∷◌, ◌++◌, Option, Some, None, Box, length, refl, sym, ap, subst, arith, length-append, is_eq, match_ordering, Equal, MatchOption, lookup, insert_entry, is_at, cases_lt, Digest, digest_cmp, AreBytes}
 use Rattle.nw_trie.specs.declared.tree.Entry.{Entry}
 use Rattle.nw_trie.specs.declared.tree.Link.{Link}
 use Rattle.nw_trie.specs.declared.tree.Link.TheVariants.{Empty, Leaf, Fork}
 use Rattle.nw_trie.specs.declared.tree.Sides.{Sides}
-use Rattle.nw_digest.specs.Order.{digest_cmp}
-use Rattle.nw_digest.specs.Bytes.{AreBytes}
 use Rattle.nw_trie.specs.Bits.{AgreeBelow, DifferFirst, bit_of}
 use Rattle.nw_trie.specs.Entries.{AreEntries, BranchesAt, EachKey, HasKey, IsFork, SomeKey}
 use Rattle.nw_trie.specs.Tree.{entries_of, IsTree, side_of, with_side}

@@ -1,7 +1,5 @@
 -- The halves of a tree: the digests with a bit unset, and those with the bit set.
-use Rattle.std.proofs.Common.{◌≡◌, ◌∙◌, inl, inr, ℕ, ◌<◌, Bool, true, false, List, [], ◌∷◌, ◌++◌, Box, length, refl, sym, subst, arith}
-use Rattle.std.proofs.lemmas.Bool.{cases_lt}
-use Rattle.nw_digest.specs.declared.digest.Digest.{Digest}
+use Rattle.nw_trie.proofs.Words.{◌≡◌, ◌∙◌, inl, inr, ℕ, ◌<◌, Bool, true, false, List, [], ◌∷◌, ◌++◌, Box, length, refl, sym, subst, arith, cases_lt, Digest}
 use Rattle.nw_trie.specs.Bits.{AgreeBelow, bit_of}
 use Rattle.nw_trie.specs.Entries.{EachKey, IsFork, SomeKey}
 use Rattle.nw_trie.specs.Tree.{entries_of, IsTree}

@@ -1,16 +1,6 @@
 -- Entries after an insertion or a replacement.
-use Rattle.std.proofs.Common.{◌≡◌, ◌∙◌, ℕ, ◌≤◌, true, false, List, [], ◌∷◌, ◌++◌, length, refl, sym, ap, arith}
-use Rattle.std.specs.List.{AllByRecursion}
+use Rattle.nw_trie.proofs.Words.{◌≡◌, ◌∙◌, ℕ, ◌≤◌, true, false, List, [], ◌∷◌, ◌++◌, length, refl, sym, ap, arith, AllByRecursion, Ordering, Less, Equal, Greater, match_ordering, ordering_reverse, keys_of, insert_entry, Digest, digest_cmp, digests_total, AreBytes}
 use Rattle.std.specs.List.Sorted.{IsStrictlySortedBy}
-use Rattle.std.specs.declared.cmp.Ordering.{Ordering}
-use Rattle.std.specs.declared.cmp.Ordering.TheVariants.{Less, Equal, Greater}
-use Rattle.std.specs.Ordering.{match_ordering, ordering_reverse}
-use Rattle.std.specs.Map.{keys_of}
-use Rattle.std.specs.BTreeMap.{insert_entry}
-use Rattle.nw_digest.specs.declared.digest.Digest.{Digest}
-use Rattle.nw_digest.specs.Order.{digest_cmp}
-use Rattle.nw_digest.proofs.Maps.{digests_total}
-use Rattle.nw_digest.specs.Bytes.{AreBytes}
 use Rattle.nw_trie.specs.Bits.{AgreeBelow, bit_of}
 use Rattle.nw_trie.specs.Entries.{AreEntries, EachKey, IsFork}
 use Rattle.nw_trie.proofs.DigestBits.{digest_less, digest_greater}

@@ -1,12 +1,6 @@
 -- Properties of each digest, or of some digest, of a list of entries.
-use Rattle.std.proofs.Common.{◌⊎◌, inl, inr, Bool, true, false, cond, List, [], ◌∷◌, ◌++◌}
-use Rattle.std.specs.Prelude.{filter}
-use Rattle.std.specs.declared.cmp.Ordering.{Ordering}
-use Rattle.std.specs.declared.cmp.Ordering.TheVariants.{Less, Equal, Greater}
-use Rattle.std.specs.Ordering.{match_ordering}
-use Rattle.std.specs.Map.{remove_entry}
-use Rattle.std.specs.BTreeMap.{insert_entry}
-use Rattle.nw_digest.specs.declared.digest.Digest.{Digest}
+use Rattle.nw_trie.proofs.Words.{inl, inr, Bool, true, false, cond, List, [], ◌∷◌, ◌++◌, filter, Ordering, Less, Equal, Greater, match_ordering, remove_entry, insert_entry, Digest}
+use Rattle.std.proofs.Common.{◌⊎◌}
 use Rattle.nw_trie.specs.Entries.{EachKey, SomeKey}
 
 module _ {V : Type 0} where

@@ -1,3 +1,4 @@
+pub mod Words
 pub mod ByteBits
 pub mod DigestBits
 pub mod Keys

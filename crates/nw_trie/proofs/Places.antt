@@ -1,14 +1,6 @@
 -- Digests and their places among many trees.
-use Rattle.std.proofs.Common.{◌≡◌, ◌∙◌, inl, inr, ℕ, zero, suc, ◌+◌, ◌-◌, ◌*◌, ◌<◌, ◌≤◌, Bool, true, false, cond, List, [], ◌∷◌, ◌++◌, None, length, refl, sym, ap, subst, arith, get_or, slice_set, append_assoc, append-nil, length-append}
-use Rattle.std.proofs.lemmas.Bool.{cases_lt}
-use Rattle.std.specs.Map.{lookup, remove_entry}
-use Rattle.std.specs.BTreeMap.{insert_entry, is_at}
-use Rattle.std.specs.Ordering.{ordering_reverse}
-use Rattle.std.specs.declared.cmp.Ordering.TheVariants.{Less, Greater}
-use Rattle.nw_digest.specs.declared.digest.Digest.{Digest}
-use Rattle.nw_digest.specs.Order.{digest_cmp}
-use Rattle.nw_digest.proofs.Maps.{digests_total}
-use Rattle.nw_digest.specs.Bytes.{AreBytes}
+use Rattle.nw_trie.proofs.Words.{◌≡◌, ◌∙◌, inl, inr, ℕ, zero, suc, ◌+◌, ◌-◌, ◌*◌, ◌<◌, ◌≤◌, Bool, true, false, cond, List, [], ◌∷◌, ◌++◌, None, length, refl, sym, ap, subst, arith, get_or, append-nil, length-append, cases_lt, lookup, remove_entry, insert_entry, is_at, ordering_reverse, Less, Greater, Digest, digest_cmp, digests_total, AreBytes}
+use Rattle.std.proofs.Common.{slice_set, append_assoc}
 use Rattle.nw_trie.specs.Bits.{AgreeBelow, bit_of}
 use Rattle.nw_trie.specs.Entries.{EachKey}
 use Rattle.nw_trie.specs.Places.{AreAtPlaces, joined, place_of}

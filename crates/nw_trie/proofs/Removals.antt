@@ -1,12 +1,7 @@
 -- Entries after a removal.
-use Rattle.std.proofs.Common.{◌≡◌, ◌∙◌, ℕ, ◌+◌, ◌<◌, Bool, true, false, cond, List, [], ◌∷◌, ◌++◌, Option, Some, length, refl, sym, ap, subst, arith}
-use Rattle.std.specs.Prelude.{filter, is_some}
+use Rattle.nw_trie.proofs.Words.{◌≡◌, ◌∙◌, ℕ, ◌+◌, ◌<◌, Bool, true, false, cond, List, [], ◌∷◌, ◌++◌, Option, Some, length, refl, sym, ap, subst, arith, filter, is_some, keys_of, lookup, remove_entry, is_at, Digest, digest_cmp}
 use Rattle.std.specs.List.Sorted.{IsStrictlySortedBy}
-use Rattle.std.specs.Map.{keys_of, lookup, remove_entry}
-use Rattle.std.specs.BTreeMap.{is_at}
 use Rattle.std.proofs.lemmas.List.Elements.{filter-append}
-use Rattle.nw_digest.specs.declared.digest.Digest.{Digest}
-use Rattle.nw_digest.specs.Order.{digest_cmp}
 use Rattle.nw_trie.specs.Bits.{bit_of}
 use Rattle.nw_trie.specs.Entries.{AreEntries, EachKey, IsFork}
 use Rattle.nw_trie.proofs.Keys.{each_left, each_right, each_both, each_remove, each_filter}

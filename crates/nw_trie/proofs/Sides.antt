@@ -1,14 +1,5 @@
 -- The two sides of a fork.
-use Rattle.std.proofs.Common.{◌≡◌, ◌∙◌, inl, inr, ℕ, ◌+◌, Bool, true, false, cond, List, [], ◌∷◌, ◌++◌, Option, Some, None, Box, refl, sym, ap, subst, arith}
-use Rattle.std.specs.Ordering.{is_eq}
-use Rattle.std.specs.declared.cmp.Ordering.{Ordering}
-use Rattle.std.specs.declared.cmp.Ordering.TheVariants.{Less, Equal, Greater}
-use Rattle.std.specs.Option.{MatchOption}
-use Rattle.std.specs.Map.{lookup}
-use Rattle.std.specs.BTreeMap.{is_at}
-use Rattle.std.proofs.lemmas.Bool.{cases_lt}
-use Rattle.nw_digest.specs.declared.digest.Digest.{Digest}
-use Rattle.nw_digest.specs.Order.{digest_cmp}
+use Rattle.nw_trie.proofs.Words.{◌≡◌, ◌∙◌, inl, inr, ℕ, ◌+◌, Bool, true, false, cond, List, [], ◌∷◌, ◌++◌, Option, Some, None, Box, refl, sym, ap, subst, arith, is_eq, Ordering, Less, Equal, Greater, MatchOption, lookup, is_at, cases_lt, Digest, digest_cmp}
 use Rattle.nw_trie.specs.Bits.{AgreeBelow, bit_of}
 use Rattle.nw_trie.specs.Entries.{AreEntries, BranchesAt, EachKey, HasKey, IsFork}
 use Rattle.nw_trie.specs.Tree.{entries_of, IsTree}

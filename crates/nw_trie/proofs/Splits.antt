@@ -1,16 +1,11 @@
 -- A new fork between a leaf and all other entries.
-use Rattle.std.proofs.Common.{◌≡◌, ◌∙◌, ℕ, ◌<◌, Bool, true, false, List, [], ◌∷◌, ◌++◌, None, Box, length, refl, sym, ap, subst, arith}
+use Rattle.nw_trie.proofs.Words.{◌≡◌, ◌∙◌, ℕ, ◌<◌, Bool, true, false, List, [], ◌∷◌, ◌++◌, None, Box, length, refl, sym, ap, subst, arith, lookup, insert_entry, is_at, Digest, digest_cmp, AreBytes}
 use Rattle.std.specs.List.Sorted.{IsStrictlySortedBy}
-use Rattle.std.specs.Map.{lookup}
-use Rattle.std.specs.BTreeMap.{insert_entry, is_at}
 use Rattle.std.proofs.lemmas.List.{append-nil}
-use Rattle.nw_digest.specs.declared.digest.Digest.{Digest}
 use Rattle.nw_trie.specs.declared.tree.Entry.{Entry}
 use Rattle.nw_trie.specs.declared.tree.Link.{Link}
 use Rattle.nw_trie.specs.declared.tree.Link.TheVariants.{Empty, Leaf, Fork}
 use Rattle.nw_trie.specs.declared.tree.Sides.{Sides}
-use Rattle.nw_digest.specs.Order.{digest_cmp}
-use Rattle.nw_digest.specs.Bytes.{AreBytes}
 use Rattle.nw_trie.specs.Bits.{AgreeBelow, DifferFirst, bit_of}
 use Rattle.nw_trie.specs.Entries.{AreEntries, BranchesAt, EachKey, IsFork}
 use Rattle.nw_trie.specs.Tree.{entries_of, IsTree}

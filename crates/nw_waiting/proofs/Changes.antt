@@ -1,22 +1,13 @@
 -- The indexes and the pairs after each call.
-use Rattle.std.proofs.Common.{◌≡◌, ◌∙◌, true, false, cond, not, ◌&&◌, ◌||◌, List, [], ◌∷◌, ◌++◌, None, sym, ap, subst}
-use Rattle.std.specs.List.{IsDistinct, list_any}
-use Rattle.std.specs.List.Sorted.{IsStrictlySortedBy}
-use Rattle.std.specs.Map.{lookup, keys_of}
-use Rattle.std.specs.BTreeMap.{is_at}
-use Rattle.std.specs.Ordering.{eq_by_cmp}
-use Rattle.std.specs.FinSet.{contains, from_list, insert}
-use Rattle.nw_digest.specs.declared.digest.Digest.{Digest}
-use Rattle.nw_model.specs.declared.wanted.Wanted.{Wanted}
+use Rattle.nw_waiting.proofs.Words.{◌≡◌, ◌∙◌, true, false, cond, not, ◌&&◌, ◌||◌, List, [], ◌∷◌, ◌++◌, None, sym, ap, subst, list_any, IsStrictlySortedBy, lookup, keys_of, is_at, eq_by_cmp, contains, from_list, insert, Digest, Wanted, ListsExactly, digest_cmp, wanted_cmp, digests_total, same_digest, one_wanted, wanted_total}
+use Rattle.std.specs.List.{IsDistinct}
+use Rattle.std.proofs.lemmas.Map.Keys.{IsDistinct-from_sorted}
 use Rattle.nw_waiting.specs.Index.{HaveSamePairs, pairs_in}
 use Rattle.nw_waiting.specs.Lists.{AreFilled, list_of}
-use Rattle.nw_digest.specs.Order.{digest_cmp}
-use Rattle.nw_waiting.specs.Pairs.{AreHolders, AreMissing, AreWanted, Pairs, without_holder, without_wanted}
-use Rattle.nw_model.specs.Missing.{wanted_cmp}
-use Rattle.nw_waiting.proofs.Members.{member_added, once_added}
-use Rattle.nw_digest.proofs.Maps.{digests_total, same_digest}
-use Rattle.nw_model.proofs.WantedOrder.{one_wanted, wanted_total}
-use Rattle.nw_waiting.proofs.Relation.{are_holders, are_missing, are_wanted, contains_added, contains_in, contains_without_holder, contains_without_wanted, filled_taken, is_pair, member_taken, nobody, once_taken, same_added, same_satisfied, same_unwanted, view_is}
+use Rattle.nw_waiting.specs.Pairs.{AreHolders, AreMissing, AreWanted, Lacks, Pairs, without_holder, without_wanted}
+use Rattle.nw_waiting.proofs.Ascending.{none}
+use Rattle.nw_waiting.proofs.Members.{ascending_put, member_added, member_put, once_added}
+use Rattle.nw_waiting.proofs.Relation.{are_holders, are_missing, are_wanted, contains_added, contains_in, contains_without_holder, contains_without_wanted, each_taken, filled_taken, is_pair, member_taken, nobody, same_added, same_satisfied, same_unwanted, view_is}
 
 module _ {L M : Type 0} (items : L → List Digest) (missing : M → List Wanted) where
   abbrev holders_at : List (Wanted × L) → Wanted → List Digest
@@ -30,7 +21,7 @@ module _ {L M : Type 0} (items : L → List Digest) (missing : M → List Wanted
   nothing hs ls no_h no_l sorted = record {
     same = λ w h. ap (λ es. list_any (eq_by_cmp digest_cmp h) (holders_at es w)) no_h ∙ sym (ap (λ es. list_any (eq_by_cmp wanted_cmp w) (missing_at es h)) no_l);
     holders_once = λ w. subst (λ es. IsDistinct (eq_by_cmp digest_cmp) (holders_at es w)) (sym no_h) (nobody (eq_by_cmp digest_cmp));
-    missing_once = λ h. subst (λ es. IsDistinct (eq_by_cmp wanted_cmp) (missing_at es h)) (sym no_l) (nobody (eq_by_cmp wanted_cmp));
+    missing_ascends = λ h. subst (λ es. IsStrictlySortedBy wanted_cmp (missing_at es h)) (sym no_l) (none wanted_cmp);
     filled = subst (λ es. AreFilled items (λ w. lookup (is_at (wanted_cmp w)) es)) (sym no_h) (λ w some. let no : false ≡ true = some in cc);
     ordered = sorted;
   }
@@ -46,8 +37,14 @@ module _ {L M : Type 0} (items : L → List Digest) (missing : M → List Wanted
     pub holders_of : (wanted : Wanted) (xs : List Digest) → xs ≡ holders_at hs wanted → AreHolders s wanted xs
     holders_of wanted xs is = subst (AreHolders s wanted) (sym is) (are_holders s wanted (holders_at hs wanted) (member wanted) (r.holders_once wanted))
 
+    pub missing_once : (h : Digest) → IsDistinct (eq_by_cmp wanted_cmp) (missing_at ls h)
+    missing_once h = IsDistinct-from_sorted wanted_cmp (missing_at ls h) (r.missing_ascends h)
+
     pub missing_of : (holder : Digest) (xs : List Wanted) → xs ≡ missing_at ls holder → AreMissing s holder xs
-    missing_of holder xs is = subst (AreMissing s holder) (sym is) (are_missing s holder (missing_at ls holder) (λ w. missing_member w holder) (r.missing_once holder))
+    missing_of holder xs is = subst (AreMissing s holder) (sym is) (are_missing s holder (missing_at ls holder) (λ w. missing_member w holder) (missing_once holder))
+
+    pub missing_listed : (holder : Digest) (xs : List Wanted) → xs ≡ missing_at ls holder → ListsExactly wanted_cmp (Lacks s holder) xs
+    missing_listed holder xs is = record { exactly = (missing_of holder xs is).exactly; ascending = subst (IsStrictlySortedBy wanted_cmp) (sym is) (r.missing_ascends holder) }
 
     pub wanted_of : AreWanted s (keys_of hs)
     wanted_of = are_wanted items hs s member r.filled r.ordered
@@ -61,7 +58,7 @@ module _ {L M : Type 0} (items : L → List Digest) (missing : M → List Wanted
       kept same_h same_l filled sorted = record {
         same = λ w h. ap (list_any (eq_by_cmp digest_cmp h)) (same_h w) ∙ r.same w h ∙ ap (list_any (eq_by_cmp wanted_cmp w)) (sym (same_l h));
         holders_once = λ w. subst (IsDistinct (eq_by_cmp digest_cmp)) (sym (same_h w)) (r.holders_once w);
-        missing_once = λ h. subst (IsDistinct (eq_by_cmp wanted_cmp)) (sym (same_l h)) (r.missing_once h);
+        missing_ascends = λ h. subst (IsStrictlySortedBy wanted_cmp) (sym (same_l h)) (r.missing_ascends h);
         filled = filled;
         ordered = sorted;
       }
@@ -77,12 +74,14 @@ module _ {L M : Type 0} (items : L → List Digest) (missing : M → List Wanted
         once_put = once_added wanted_cmp digests_total (holders_at hs) (holders_at hs') wanted holder put_h r.holders_once
             (λ q e. r.same q holder ∙ ap (λ w. list_any (eq_by_cmp wanted_cmp w) (missing_at ls holder)) (sym (one_wanted wanted q e)) ∙ absent)
 
-        pub added : ((q : Digest) → missing_at ls' q ≡ cond (eq_by_cmp digest_cmp holder q) (missing_at ls q ++ wanted ∷ []) (missing_at ls q)) → AreFilled items (λ w. lookup (is_at (wanted_cmp w)) hs') → IsStrictlySortedBy wanted_cmp (keys_of hs')
-            → HaveSamePairs items missing hs' ls'
-        added put_l filled sorted = record {
-          same = λ w h. same_added wanted w holder h _ _ _ _ (member_added wanted_cmp digests_total (holders_at hs) (holders_at hs') wanted holder put_h w h) (member_added digest_cmp wanted_total (missing_at ls) (missing_at ls') holder wanted put_l h w) (r.same w h);
+        pub added : (ys : List Wanted) → ((w : Wanted) → list_any (eq_by_cmp wanted_cmp w) ys ≡ (list_any (eq_by_cmp wanted_cmp w) (missing_at ls holder) || eq_by_cmp wanted_cmp w wanted)) → IsStrictlySortedBy wanted_cmp ys
+            → ((q : Digest) → missing_at ls' q ≡ cond (eq_by_cmp digest_cmp holder q) ys (missing_at ls q)) → AreFilled items (λ w. lookup (is_at (wanted_cmp w)) hs') → IsStrictlySortedBy wanted_cmp (keys_of hs') → HaveSamePairs items missing hs' ls'
+        added ys any ascends put_l filled sorted = record {
+          same = λ w h.
+              same_added wanted w holder h _ _ _ _ (member_added wanted_cmp digests_total (holders_at hs) (holders_at hs') wanted holder put_h w h)
+              (member_put digest_cmp wanted_total (missing_at ls) (missing_at ls') holder wanted ys put_l (λ q e. ap (missing_at ls) (same_digest holder q e)) any h w) (r.same w h);
           holders_once = once_put;
-          missing_once = once_added digest_cmp wanted_total (missing_at ls) (missing_at ls') holder wanted put_l r.missing_once (λ q e. ap (λ d. list_any (eq_by_cmp wanted_cmp wanted) (missing_at ls d)) (sym (same_digest holder q e)) ∙ absent);
+          missing_ascends = ascending_put digest_cmp wanted_total (missing_at ls) (missing_at ls') holder wanted ys put_l ascends r.missing_ascends;
           filled = filled;
           ordered = sorted;
         }
@@ -97,13 +96,13 @@ module _ {L M : Type 0} (items : L → List Digest) (missing : M → List Wanted
 
         pub satisfied : (xs : List Digest) → xs ≡ holders_at hs wanted
             → ((h : Digest) (w : Wanted) → list_any (eq_by_cmp wanted_cmp w) (missing_at ls' h) ≡ (list_any (eq_by_cmp wanted_cmp w) (missing_at ls h) && not (list_any (eq_by_cmp digest_cmp h) xs && eq_by_cmp wanted_cmp w wanted)))
-            → ((h : Digest) → IsDistinct (eq_by_cmp wanted_cmp) (missing_at ls' h)) → IsStrictlySortedBy wanted_cmp (keys_of hs') → HaveSamePairs items missing hs' ls'
-        satisfied xs is took once sorted = record {
+            → ((h : Digest) → IsStrictlySortedBy wanted_cmp (missing_at ls' h)) → IsStrictlySortedBy wanted_cmp (keys_of hs') → HaveSamePairs items missing hs' ls'
+        satisfied xs is took ascends sorted = record {
           same = λ w h.
               left_member w h ∙ same_satisfied wanted w h (λ v d. list_any (eq_by_cmp digest_cmp d) (holders_at hs v)) (list_any (eq_by_cmp wanted_cmp w) (missing_at ls h)) (r.same w h)
               ∙ ap (λ ys. list_any (eq_by_cmp wanted_cmp w) (missing_at ls h) && not (list_any (eq_by_cmp digest_cmp h) ys && eq_by_cmp wanted_cmp w wanted)) (sym is) ∙ sym (took h w);
-          holders_once = once_taken wanted_cmp (eq_by_cmp digest_cmp) items (λ q. lookup (is_at (wanted_cmp q)) hs) (λ q. lookup (is_at (wanted_cmp q)) hs') wanted gone r.holders_once;
-          missing_once = once;
+          holders_once = each_taken wanted_cmp (eq_by_cmp digest_cmp) items (λ q. lookup (is_at (wanted_cmp q)) hs) (λ q. lookup (is_at (wanted_cmp q)) hs') wanted gone (IsDistinct (eq_by_cmp digest_cmp)) (nobody (eq_by_cmp digest_cmp)) r.holders_once;
+          missing_ascends = ascends;
           filled = filled_taken wanted_cmp (eq_by_cmp digest_cmp) items (λ q. lookup (is_at (wanted_cmp q)) hs) (λ q. lookup (is_at (wanted_cmp q)) hs') wanted gone r.filled;
           ordered = sorted;
         }
@@ -124,7 +123,7 @@ module _ {L M : Type 0} (items : L → List Digest) (missing : M → List Wanted
         unwanted gone once filled sorted = record {
           same = λ w h. rest_member w h ∙ sym (member_taken digest_cmp (eq_by_cmp wanted_cmp) missing (λ q. lookup (is_at (digest_cmp q)) ls) (λ q. lookup (is_at (digest_cmp q)) ls') holder gone h w);
           holders_once = once;
-          missing_once = once_taken digest_cmp (eq_by_cmp wanted_cmp) missing (λ q. lookup (is_at (digest_cmp q)) ls) (λ q. lookup (is_at (digest_cmp q)) ls') holder gone r.missing_once;
+          missing_ascends = each_taken digest_cmp (eq_by_cmp wanted_cmp) missing (λ q. lookup (is_at (digest_cmp q)) ls) (λ q. lookup (is_at (digest_cmp q)) ls') holder gone (IsStrictlySortedBy wanted_cmp) (none wanted_cmp) r.missing_ascends;
           filled = filled;
           ordered = sorted;
         }

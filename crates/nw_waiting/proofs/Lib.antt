@@ -1,3 +1,5 @@
+pub mod Words
+mod Ascending
 mod Changes
 pub mod Members
 pub mod Orders

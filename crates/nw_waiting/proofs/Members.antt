@@ -1,16 +1,12 @@
 -- The members of the lists in a map after a change.
-use Rattle.std.proofs.Common.{◌≡◌, ◌∙◌, ℕ, ◌+◌, ◌<◌, length, take, get_or, Bool, true, false, cond, not, ◌&&◌, ◌||◌, List, [], ◌∷◌, ◌++◌, Some, refl, sym, ap, subst}
-use Rattle.std.specs.Prelude.{filter}
-use Rattle.std.specs.declared.cmp.Ordering.{Ordering}
-use Rattle.std.specs.Cmp.{IsTotalOrder, eq_by_cmp_equiv}
-use Rattle.std.specs.List.{AllByRecursion, IsDistinct, list_any}
-use Rattle.std.specs.BTreeMap.{is_at}
+use Rattle.nw_waiting.proofs.Words.{◌≡◌, ◌∙◌, ℕ, ◌+◌, ◌<◌, length, take, get_or, Bool, true, false, cond, not, ◌&&◌, ◌||◌, List, [], ◌∷◌, ◌++◌, Some, refl, sym, ap, arith, subst, filter, Ordering, IsTotalOrder, eq_by_cmp_equiv, list_any, is_at, lookup, eq_by_cmp, take_more, list_any-append, IsDistinct-head, IsDistinct-tail}
+use Rattle.std.proofs.Common.{Equal, suc, zero}
+use Rattle.std.specs.List.{AllByRecursion, HoldsAt, IsDistinct, remove}
+use Rattle.std.specs.Ordering.{is_eq}
 use Rattle.std.specs.HashMap.Eq.{lookup_congr}
-use Rattle.std.specs.Map.{lookup}
-use Rattle.std.specs.Ordering.{eq_by_cmp}
-use Rattle.std.proofs.lemmas.List.{take_more}
-use Rattle.std.proofs.lemmas.List.Folds.{list_any-append}
-use Rattle.std.proofs.lemmas.Map.Keys.{IsDistinct-cons, IsDistinct-head, IsDistinct-push, IsDistinct-tail}
+use Rattle.std.specs.List.Sorted.{IsStrictlySortedBy}
+use Rattle.std.proofs.lemmas.List.Kept.{IsStrictlySortedBy-filter}
+use Rattle.std.proofs.lemmas.Map.Keys.{IsDistinct-cons, IsDistinct-push}
 use Rattle.std.proofs.lemmas.Map.Made.{is_member-filter}
 use Rattle.nw_waiting.specs.Lists.{list_of}
 
@@ -39,6 +35,13 @@ module _ {K L V : Type 0} {RK : K → K → Ordering} (o : IsTotalOrder RK) (ite
       by true e = is ∙ ap (λ found. to (list_of items found)) (lookup_congr (eq_by_cmp RK) (eq_by_cmp_equiv o).congr es k q e)
       by false e = refl
 
+  pub placed : (q : K) → at fs q ≡ cond (eq_by_cmp RK k q) (items w) (at es q)
+  placed q = ap (list_of items) (put q) ∙ by (eq_by_cmp RK k q)
+    where
+      by : (b : Bool) → list_of items (cond b (Some w) (lookup (is_at (RK q)) es)) ≡ cond b (items w) (at es q)
+      by true = refl
+      by false = refl
+
   pub rewritten : items w ≡ at es k → (q : K) → at fs q ≡ at es q
   rewritten is q = written (λ xs. xs) is q ∙ either (eq_by_cmp RK k q) (at es q)
 
@@ -54,6 +57,31 @@ module _ {X : Type 0} (E : X → X → Bool) (p : X → Bool) where
         | true ↦ IsDistinct-cons E x (filter p xs) (kept_all x xs (IsDistinct-head E x xs d)) (IsDistinct-filter xs (IsDistinct-tail E x xs d))
         | false ↦ IsDistinct-filter xs (IsDistinct-tail E x xs d)
       ]
+
+-- the value at a place, which stands nowhere else, is taken out
+module _ {V : Type 0} {R : V → V → Ordering} (o : IsTotalOrder R) (v : V) where
+  abbrev others : V → Bool
+  others x = not (eq_by_cmp R x v)
+
+  none_more : (x : V) (xs : List V) → eq_by_cmp R x v ≡ true → AllByRecursion (λ y. eq_by_cmp R x y ≡ false) xs → filter others xs ≡ xs
+  none_more x [] is all = refl
+  none_more x (y ∷ ys) is all =
+      let other : others y ≡ true = ap not ((eq_by_cmp_equiv o).symm y v ∙ sym ((eq_by_cmp_equiv o).congr x v y is) ∙ all.0) in
+      ap (λ b. cond b (y ∷ filter others ys) (filter others ys)) other ∙ ap (λ (rest : List V). y ∷ rest) (none_more x ys is all.1)
+
+  apart_at : (x : V) (xs : List V) (i : ℕ) → i < length xs → AllByRecursion (λ y. eq_by_cmp R x y ≡ false) xs → HoldsAt (λ y. R y v ≡ Equal) xs i → eq_by_cmp R x v ≡ false
+  apart_at x [] i below all at = absurd (omega arith)
+  apart_at x (y ∷ ys) zero below all at = (eq_by_cmp_equiv o).symm x v ∙ sym ((eq_by_cmp_equiv o).congr y v x (ap is_eq (at y))) ∙ (eq_by_cmp_equiv o).symm y x ∙ all.0
+  apart_at x (y ∷ ys) (suc i) below all at = apart_at x ys i (omega arith) all.1 at
+
+  pub removed_at : (xs : List V) (i : ℕ) → IsDistinct (eq_by_cmp R) xs → i < length xs → HoldsAt (λ y. R y v ≡ Equal) xs i → remove xs i ≡ filter others xs
+  removed_at [] i once below at = absurd (omega arith)
+  removed_at (x ∷ xs) zero once below at =
+      let is = ap is_eq (at x) in
+      sym (ap (λ b. cond (not b) (x ∷ filter others xs) (filter others xs)) is ∙ none_more x xs is (IsDistinct-head (eq_by_cmp R) x xs once))
+  removed_at (x ∷ xs) (suc i) once below at =
+      let other = apart_at x xs i (omega arith) (IsDistinct-head (eq_by_cmp R) x xs once) at in
+      ap (λ (rest : List V). x ∷ rest) (removed_at xs i (IsDistinct-tail (eq_by_cmp R) x xs once) (omega arith) at) ∙ sym (ap (λ b. cond (not b) (x ∷ filter others xs) (filter others xs)) other)
 
 module _ {K V : Type 0} (RK : K → K → Ordering) {RV : V → V → Ordering} (o : IsTotalOrder RV) (at new : K → List V) (k : K) (v : V) where
   -- a value is appended to the list of the key
@@ -71,6 +99,23 @@ module _ {K V : Type 0} (RK : K → K → Ordering) {RV : V → V → Ordering} 
         by : (b : Bool) → eq_by_cmp RK k q ≡ b → IsDistinct (eq_by_cmp RV) (cond b (at q ++ v ∷ []) (at q))
         by true is = IsDistinct-push (eq_by_cmp_equiv o) (at q) v (once q) (absent q is)
         by false is = once q
+
+  -- the list of the key is replaced
+  module _ (ys : List V) (put : (q : K) → new q ≡ cond (eq_by_cmp RK k q) ys (at q)) where
+    pub member_put : ((q : K) → eq_by_cmp RK k q ≡ true → at k ≡ at q) → ((x : V) → list_any (eq_by_cmp RV x) ys ≡ (list_any (eq_by_cmp RV x) (at k) || eq_by_cmp RV x v)) → (q : K) (x : V)
+        → list_any (eq_by_cmp RV x) (new q) ≡ (list_any (eq_by_cmp RV x) (at q) || (eq_by_cmp RK k q && eq_by_cmp RV x v))
+    member_put same any q x = ap (list_any (eq_by_cmp RV x)) (put q) ∙ by (eq_by_cmp RK k q) refl
+      where
+        by : (b : Bool) → eq_by_cmp RK k q ≡ b → list_any (eq_by_cmp RV x) (cond b ys (at q)) ≡ (list_any (eq_by_cmp RV x) (at q) || (b && eq_by_cmp RV x v))
+        by true is = any x ∙ ap (λ xs. list_any (eq_by_cmp RV x) xs || eq_by_cmp RV x v) (same q is)
+        by false is = or_false _
+
+    pub ascending_put : IsStrictlySortedBy RV ys → ((q : K) → IsStrictlySortedBy RV (at q)) → (q : K) → IsStrictlySortedBy RV (new q)
+    ascending_put first rest q = subst (IsStrictlySortedBy RV) (sym (put q)) (by (eq_by_cmp RK k q))
+      where
+        by : (b : Bool) → IsStrictlySortedBy RV (cond b ys (at q))
+        by true = first
+        by false = rest q
 
   -- a value is removed from the list of the key
   module _ (took : (q : K) → new q ≡ cond (eq_by_cmp RK k q) (filter (λ x. not (eq_by_cmp RV x v)) (at q)) (at q)) where
@@ -90,6 +135,13 @@ module _ {K V : Type 0} (RK : K → K → Ordering) {RV : V → V → Ordering} 
         by : (b : Bool) → IsDistinct (eq_by_cmp RV) (cond b (filter (λ x. not (eq_by_cmp RV x v)) (at q)) (at q))
         by true = IsDistinct-filter (eq_by_cmp RV) _ (at q) (once q)
         by false = once q
+
+    pub ascending_removed : ((q : K) → IsStrictlySortedBy RV (at q)) → (q : K) → IsStrictlySortedBy RV (new q)
+    ascending_removed ascends q = subst (IsStrictlySortedBy RV) (sym (took q)) (by (eq_by_cmp RK k q))
+      where
+        by : (b : Bool) → IsStrictlySortedBy RV (cond b (filter (λ x. not (eq_by_cmp RV x v)) (at q)) (at q))
+        by true = IsStrictlySortedBy-filter RV _ (at q) (ascends q)
+        by false = ascends q
 
 -- the value is removed from the list of one more key
 pub taken_more : (m i e v : Bool) → ((m && not (i && v)) && not (e && v)) ≡ (m && not ((i || (e || false)) && v))

@@ -1,14 +1,10 @@
 -- The order of pairs.
-use Rattle.std.proofs.Common.{◌≡◌, ◌&&◌, sym}
-use Rattle.std.specs.Cmp.{IsTotalOrder, tied_then}
-use Rattle.std.specs.Ordering.{eq_by_cmp}
+use Rattle.nw_waiting.proofs.Words.{◌≡◌, ◌&&◌, sym, IsTotalOrder, eq_by_cmp, digest_cmp, wanted_cmp, digests_total, wanted_apart, wanted_total}
+use Rattle.std.specs.Cmp.{tied_then}
 use Rattle.std.specs.FinMap.{IsAntisymmetric}
 use Rattle.std.proofs.lemmas.Cmp.{on_total, then_total}
 use Rattle.std.proofs.lemmas.Map.Lookups.{exact_pairs}
-use Rattle.nw_digest.specs.Order.{digest_cmp}
-use Rattle.nw_model.specs.Missing.{wanted_cmp}
-use Rattle.nw_digest.proofs.Maps.{digests_apart, digests_total}
-use Rattle.nw_model.proofs.WantedOrder.{wanted_apart, wanted_total}
+use Rattle.nw_digest.proofs.Maps.{digests_apart}
 use Rattle.nw_waiting.specs.Pairs.{Pair, pair_cmp}
 
 pub pairs_total : IsTotalOrder pair_cmp

@@ -1,18 +1,9 @@
 -- The two sets of pairs after each call.
-use Rattle.std.proofs.Common.{◌≡◌, ◌∙◌, ◌⊎◌, inl, inr, Bool, true, false, cond, not, ◌&&◌, ◌||◌, List, [], ◌∷◌, refl, sym, ap, arith, subst}
+use Rattle.nw_waiting.proofs.Words.{◌≡◌, ◌∙◌, Bool, true, false, cond, not, ◌&&◌, ◌||◌, List, [], ◌∷◌, refl, sym, ap, arith, subst, eq_by_cmp_equiv, contains, contains-insert, contains-retain, insert, same_set, IsStrictlySortedBy, eq_by_cmp, and_from, and_parts, Contains-from_any, list_any-from_Contains, Digest, digest_cmp, Wanted, wanted_cmp, digests_total, same_digest, one_wanted, wanted_total}
+use Rattle.std.proofs.Common.{◌⊎◌, inl, inr}
 use Rattle.std.specs.Prelude.{◌↔◌, IsTrue}
-use Rattle.std.specs.Cmp.{eq_by_cmp_equiv}
-use Rattle.std.specs.FinSet.{contains, contains-empty, contains-insert, contains-retain, empty, insert, same_set}
-use Rattle.std.specs.List.Sorted.{IsStrictlySortedBy}
-use Rattle.std.specs.Ordering.{eq_by_cmp}
-use Rattle.std.proofs.lemmas.Bool.{and_from, and_parts, false≢true}
-use Rattle.std.proofs.lemmas.Map.Views.{Contains-from_any, list_any-from_Contains}
-use Rattle.nw_digest.specs.declared.digest.Digest.{Digest}
-use Rattle.nw_digest.specs.Order.{digest_cmp}
-use Rattle.nw_model.specs.declared.wanted.Wanted.{Wanted}
-use Rattle.nw_model.specs.Missing.{wanted_cmp}
-use Rattle.nw_digest.proofs.Maps.{digests_total, same_digest}
-use Rattle.nw_model.proofs.WantedOrder.{one_wanted, wanted_total}
+use Rattle.std.specs.FinSet.{contains-empty, empty}
+use Rattle.std.proofs.lemmas.Bool.{false≢true}
 use Rattle.nw_waiting.specs.Pairs.{AreMissing, AreWanted, Lacks, Pair, Pairs, pair_cmp, without_holder, without_wanted}
 use Rattle.nw_waiting.specs.Parted.{AreSameForOthers, HaveHolders, IsMetForAll, Parted, is_one, parted}
 use Rattle.nw_waiting.proofs.Orders.{pair_tied, pairs_apart, pairs_total}

@@ -1,28 +1,17 @@
 -- The pairs in the lists, and the pairs after a change of the lists.
-use Rattle.std.proofs.Common.{◌≡◌, ◌≢◌, ◌∙◌, Bool, true, false, cond, not, ◌&&◌, ◌||◌, List, [], ◌∷◌, map, Option, Some, None, Result, Ok, Err, refl, sym, ap, subst}
+use Rattle.nw_waiting.proofs.Words.{◌≡◌, ◌∙◌, Bool, true, false, cond, not, ◌&&◌, ◌||◌, List, [], ◌∷◌, Some, None, refl, sym, ap, subst, Ordering, eq_by_cmp_equiv, list_any, IsStrictlySortedBy, lookup, keys_of, is_at, eq_by_cmp, contains, contains-insert, contains-retain, from_list, insert, same_set, list_any-append, Contains-from_any, list_any-from_Contains, Digest, Wanted, digest_cmp, wanted_cmp, digests_total, same_digest, one_wanted, wanted_total}
+use Rattle.std.proofs.Common.{◌≢◌, map, Option, Result, Ok, Err}
 use Rattle.std.specs.Prelude.{IsSome, OnErr}
-use Rattle.std.specs.declared.cmp.Ordering.{Ordering}
-use Rattle.std.specs.Cmp.{eq_by_cmp_equiv}
-use Rattle.std.specs.List.{IsDistinct, list_any}
-use Rattle.std.specs.List.Sorted.{IsStrictlySortedBy}
-use Rattle.std.specs.Map.{lookup, keys_of}
-use Rattle.std.specs.BTreeMap.{is_at}
-use Rattle.std.specs.Ordering.{eq_by_cmp}
-use Rattle.std.specs.FinSet.{contains, contains-from_list, contains-insert, contains-retain, from_list, insert, same_set}
-use Rattle.std.proofs.lemmas.List.Folds.{list_any-append}
+use Rattle.std.specs.List.{IsDistinct}
+use Rattle.std.specs.FinSet.{contains-from_list}
 use Rattle.std.proofs.lemmas.Map.{lookup-none}
 use Rattle.std.proofs.lemmas.Map.Entries.{none_past_head}
 use Rattle.std.proofs.lemmas.Map.Keys.{IsDistinct-from_sorted, sorted_tail}
-use Rattle.std.proofs.lemmas.Map.Views.{Contains-from_any, Contains-keys_from_lookup, IsSome-lookup_from_Contains, list_any-from_Contains}
-use Rattle.nw_digest.specs.declared.digest.Digest.{Digest}
-use Rattle.nw_model.specs.declared.wanted.Wanted.{Wanted}
+use Rattle.std.proofs.lemmas.Map.Views.{Contains-keys_from_lookup, IsSome-lookup_from_Contains}
 use Rattle.nw_waiting.specs.Index.{pairs_in}
 use Rattle.nw_waiting.specs.Lists.{AreFilled, list_of}
-use Rattle.nw_digest.specs.Order.{digest_cmp}
 use Rattle.nw_waiting.specs.Pairs.{AreHolders, AreMissing, AreWanted, Lacks, Pair, Pairs, pair_cmp, without_holder, without_wanted}
-use Rattle.nw_model.specs.Missing.{wanted_cmp}
-use Rattle.nw_digest.proofs.Maps.{digests_total, tie, same_digest}
-use Rattle.nw_model.proofs.WantedOrder.{one_wanted, wanted_total}
+use Rattle.nw_digest.proofs.Maps.{tie}
 use Rattle.nw_waiting.proofs.Orders.{pair_tied, pairs_apart, pairs_total}
 
 or_false : (b : Bool) → (b || false) ≡ b
@@ -134,12 +123,12 @@ module _ {K V L : Type 0} (RK : K → K → Ordering) (EV : V → V → Bool) (i
       by false true is = is
       by false false is = is
 
-  pub once_taken : ((q : K) → IsDistinct EV (list_of items (at q))) → (q : K) → IsDistinct EV (list_of items (new q))
-  once_taken once q = subst (λ found. IsDistinct EV (list_of items found)) (sym (none q)) (by (eq_by_cmp RK k q))
+  pub each_taken : (P : List V → Type 0) → P [] → ((q : K) → P (list_of items (at q))) → (q : K) → P (list_of items (new q))
+  each_taken P empty each q = subst (λ found. P (list_of items found)) (sym (none q)) (by (eq_by_cmp RK k q))
     where
-      by : (b : Bool) → IsDistinct EV (list_of items (cond b None (at q)))
-      by true = nobody EV
-      by false = once q
+      by : (b : Bool) → P (list_of items (cond b None (at q)))
+      by true = empty
+      by false = each q
 
   pub filled_taken : AreFilled items at → AreFilled items new
   filled_taken filled q = subst (λ found. IsSome found → list_of items found ≢ []) (sym (none q)) (by (eq_by_cmp RK k q))

@@ -32,8 +32,8 @@ module _ {L M : Type 0} (holders : L → List Digest) (missing : M → List Want
     pub same : (w : Wanted) (h : Digest) → list_any (eq_by_cmp digest_cmp h) (holders_at hs w) ≡ list_any (eq_by_cmp wanted_cmp w) (missing_at ls h)
     -- each list has a holder at most once
     pub holders_once : (w : Wanted) → IsDistinct (eq_by_cmp digest_cmp) (holders_at hs w)
-    -- each list has a parent at most once
-    pub missing_once : (h : Digest) → IsDistinct (eq_by_cmp wanted_cmp) (missing_at ls h)
+    -- each list of parents ascends
+    pub missing_ascends : (h : Digest) → IsStrictlySortedBy wanted_cmp (missing_at ls h)
     -- no list of holders is empty
     pub filled : AreFilled holders (λ w. lookup (is_at (wanted_cmp w)) hs)
     -- the wanted parents ascend

@@ -4,6 +4,7 @@ ghost use Rattle.std.specs.Vec.{vec_len, vec_capacity};
 ghost use Rattle.std.specs.Prelude.{OnOk, OnErr, filter, not, if◌then◌else◌};
 ghost use Rattle.std.specs.BTreeMap.{get, is_at, IsOrdered};
 ghost use Rattle.std.specs.List.{IsDistinct, list_any};
+ghost use Rattle.std.specs.List.Sorted.{IsStrictlySortedBy};
 ghost use Rattle.std.specs.Ordering.{eq_by_cmp};
 ghost use Rattle.nw_waiting.specs.Lists.{AreFilled, list_of};
 
@@ -56,6 +57,7 @@ fn remove<K: Ord + Drop, V: Ord + Drop, A: Allocator>(
     key: &K,
     value: &V,
 )
+    requires { (q : K) → IsDistinct (eq_by_cmp V.cmp) (list_of (λ v. v.items) (get K.cmp lists.old q)) }
     ensures removed { (q : K) → list_of (λ v. v.items) (get K.cmp lists.new q)
         ≡ (if is_at (K.cmp key.now) q
         then filter (λ x. not (eq_by_cmp V.cmp x value.now))
@@ -74,11 +76,17 @@ fn remove<K: Ord + Drop, V: Ord + Drop, A: Allocator>(
     }
 }
 
-/// Removes each copy of the value from the list.
+/// Removes the value from the list, which has it at most once. Searches by halves first: lists of parents ascend.
 fn drop_value<V: Ord + Drop, A: Allocator>(list: &mut Vec<V, A>, value: &V)
+    requires { IsDistinct (eq_by_cmp V.cmp) list.old.items }
     ensures { list.new.items ≡ filter (λ x. not (eq_by_cmp V.cmp x value.now)) list.old.items }
 {
-    list.retain(|other| other != value);
+    match list.binary_search(value) {
+        Ok(place) => {
+            let _removed = list.remove(place);
+        }
+        Err(_) => list.retain(|other| other != value),
+    }
 }
 
 /// Removes the value from the lists of these keys.
@@ -87,14 +95,18 @@ pub fn remove_from_each<K: Ord + Drop, V: Ord + Drop, A: Allocator>(
     keys: &[K],
     value: &V,
 )
+    requires { (q : K)
+        → IsDistinct (eq_by_cmp V.cmp) (list_of (λ list. list.items) (get K.cmp lists.old q)) }
     ensures removed { (q : K) (v : V)
         → list_any (eq_by_cmp V.cmp v) (list_of (λ list. list.items) (get K.cmp lists.new q))
         ≡ (list_any (eq_by_cmp V.cmp v) (list_of (λ list. list.items) (get K.cmp lists.old q))
         && not (list_any (eq_by_cmp K.cmp q) keys.now && eq_by_cmp V.cmp v value.now)) }
-    ensures once { ((q : K)
-        → IsDistinct (eq_by_cmp V.cmp) (list_of (λ list. list.items) (get K.cmp lists.old q)))
-        → (q : K)
+    ensures once { (q : K)
         → IsDistinct (eq_by_cmp V.cmp) (list_of (λ list. list.items) (get K.cmp lists.new q)) }
+    ensures ascending { ((q : K)
+        → IsStrictlySortedBy V.cmp (list_of (λ list. list.items) (get K.cmp lists.old q)))
+        → (q : K)
+        → IsStrictlySortedBy V.cmp (list_of (λ list. list.items) (get K.cmp lists.new q)) }
     ensures filled { AreFilled (λ v. v.items) (get K.cmp lists.old)
         → AreFilled (λ v. v.items) (get K.cmp lists.new) }
     ensures ordered { IsOrdered K.cmp lists.old → IsOrdered K.cmp lists.new }
@@ -102,11 +114,4 @@ pub fn remove_from_each<K: Ord + Drop, V: Ord + Drop, A: Allocator>(
     for key in keys {
         remove(lists, key, value);
     }
-}
-
-/// Whether the list has the value.
-pub fn has<V: Ord>(list: &[V], value: &V) -> bool
-    ensures { result ≡ list_any (eq_by_cmp V.cmp value.now) list.now }
-{
-    list.contains(value)
 }

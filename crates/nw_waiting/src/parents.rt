@@ -2,7 +2,7 @@
 ghost use Rattle.std.specs.Prelude.{◌≡◌, IfOk, OnErr, OnOk, if◌then◌else◌, take, true};
 ghost use Rattle.std.specs.BTreeSet.{IsOrdered};
 ghost use Rattle.std.specs.FinSet as set;
-ghost use Rattle.nw_model.specs.Missing.{ListsExactly, wanted_cmp};
+ghost use Rattle.nw_model.specs.Missing.{HasCount, ListsExactly, wanted_cmp};
 ghost use Rattle.nw_waiting.specs.Pairs.{AreFirst, AreHolders, Lacks, LacksCount, WantedCount};
 ghost use Rattle.nw_waiting.specs.Pairs.{without_holder, without_wanted};
 ghost use Rattle.nw_waiting.specs.Parted.{AreSameForOthers, IsMetForAll};
@@ -115,6 +115,19 @@ impl<A: Allocator + Copy> MissingParents<A> {
         self.lacking.lacks(holder)
     }
 
+    /// The number of the holder's unmet parents. Allocates nothing. It looks up each of its missing parents.
+    pub fn unmet_count(&self, holder: Digest) -> usize
+        ensures { HasCount wanted_cmp (Lacks self.now.unmet holder) result }
+    {
+        let mut count = 0;
+        for wanted in self.lacking.missing_of(holder) {
+            if self.unmet.contains(wanted) {
+                count += 1;
+            }
+        }
+        count
+    }
+
     /// The holder's unmet parents, ascending. `NoMemory` if an allocation fails.
     pub fn unmet_of(&self, alloc: Global, holder: Digest) -> Result<Vec<Wanted>, NoMemory>
         ensures { IfOk result
@@ -126,7 +139,6 @@ impl<A: Allocator + Copy> MissingParents<A> {
                 unmet.push(*wanted)?;
             }
         }
-        unmet.sort_unstable();
         Ok(unmet)
     }
 

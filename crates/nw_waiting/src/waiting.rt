@@ -3,10 +3,11 @@ ghost use Rattle.std.specs.Prelude.{◌≡◌, ◌↔◌, IfOk, IsTrue, OnOk, On
 ghost use Rattle.std.specs.BTreeMap.{keys};
 ghost use Rattle.std.specs.FinSet as set;
 ghost use Rattle.nw_digest.specs.declared.digest.Digest.{Digest};
+ghost use Rattle.nw_model.specs.Missing.{ListsExactly, wanted_cmp};
 ghost use Rattle.nw_waiting.specs.Pairs.{AreFirst, AreHolders, AreMissing, Lacks, LacksCount, WantedCount};
 ghost use Rattle.nw_waiting.specs.Pairs.{without_holder, without_wanted};
 
-use crate::lists::{add, has, make_room, remove_from_each};
+use crate::lists::{add, make_room, remove_from_each};
 use nw_digest::{Digest, NoMemory};
 use nw_model::Wanted;
 use std::alloc::{AllocError, Allocator, Global};
@@ -20,7 +21,7 @@ pub struct Waiting<A: Allocator> {
     alloc: A,
     /// For each wanted parent, the holders that are missing it.
     holders: BTreeMap<Wanted, Vec<Digest, A>, A>,
-    /// For each holder, its missing parents. A failed allocation may leave an empty list.
+    /// For each holder, its missing parents, ascending. A failed allocation may leave an empty list.
     missing: BTreeMap<Digest, Vec<Wanted, A>, A>,
 }
 
@@ -58,12 +59,12 @@ impl<A: Allocator + Copy> Waiting<A> {
         ensures unchanged { OnErr result (self.new ≡ self.old) }
     {
         let missing = self.missing.entry(holder)?.or_insert(Vec::new(self.alloc));
-        if has(missing, &wanted) {
+        let Err(place) = missing.binary_search(&wanted) else {
             return Ok(());
-        }
+        };
         make_room(missing)?;
         add(&mut self.holders, self.alloc, wanted, holder)?;
-        missing.push_reserved(wanted);
+        let _inserted = missing.insert(place, wanted);
         Ok(())
     }
 
@@ -98,9 +99,9 @@ impl<A: Allocator + Copy> Waiting<A> {
         self.holders.contains_key(wanted)
     }
 
-    /// The holder's missing parents, each once. Allocates nothing.
+    /// The holder's missing parents, ascending. Allocates nothing.
     pub fn missing_of(&self, holder: Digest) -> &[Wanted]
-        ensures { AreMissing self.now holder result.now }
+        ensures { ListsExactly wanted_cmp (Lacks self.now holder) result.now }
     {
         match self.missing.get(&holder) {
             None => &[],

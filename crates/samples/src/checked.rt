@@ -4,7 +4,7 @@ ghost use Rattle.std.specs.Prelude.{◌≡◌, IfOk, length};
 use crate::signing::{seal, signature};
 use nw_check::{CheckedBlock, CheckedCert, check_block, check_cert};
 use nw_codec::{Block, Certificate, Ref, Transactions};
-use nw_committee::{Committee, Key};
+use nw_committee::{Committee, Key, Member};
 use nw_digest::{Digest, Round, Sequence, Shared};
 use nw_sig::DemoScheme;
 use std::alloc::Global;
@@ -33,6 +33,22 @@ pub fn committee(alloc: Global, members: u16) -> Result<Shared<Committee>, Fail>
         keys.push(key(member))?;
     }
     Ok(Shared::new(alloc, Committee::new(alloc, keys)?)?)
+}
+
+/// A committee of four members of weight 1, made with or without given weights.
+pub fn four(alloc: Global, is_weighted: bool) -> Result<Shared<Committee>, Fail> {
+    let equal = committee(alloc, 4)?;
+    if !is_weighted {
+        return Ok(equal);
+    }
+    let mut members = Vec::new(alloc);
+    for number in 0..4 {
+        members.push(Member {
+            key: key(number),
+            weight: 1,
+        })?;
+    }
+    Ok(Shared::new(alloc, Committee::weighted(members)?)?)
 }
 
 /// A checked block without transactions. These digests are its parents, which are by authors 0, 1, 2, ..
@@ -95,7 +111,8 @@ fn checked(
     Ok(check_block(alloc, committee, block, signature)?)
 }
 
-/// A checked certificate for the digest, author and round, with the votes of all members.
+/// A checked certificate for the digest, author and round, with the votes of the first members, as many as the quorum. Each member must
+/// have weight 1.
 pub fn certificate(
     alloc: Global,
     committee: &Shared<Committee>,
@@ -108,7 +125,7 @@ pub fn certificate(
 {
     let round = round_of(round)?;
     let mut votes = Vec::new(alloc);
-    for signer in 0..u16::try_from(committee.get().size())? {
+    for signer in 0..u16::try_from(committee.get().quorum())? {
         votes.push(seal(committee.get(), digest, round, author, signer))?;
     }
     let certificate = Certificate {

@@ -7,6 +7,8 @@
 //! - [`older`] returns blocks of round 0, and [`newer`] a block of round 1 that has them as parents. Each has the digest that [`name`]
 //!   returns for its round and author. [`view_of_both`] is the view of all these blocks, and [`view_of_one`] that of one block of round 0.
 //!
+//! [`Naps`] let a gate wait for another thread.
+//!
 //! Only tests use this crate. It uses `nw_trie` for tries, and `nw_generation` for views.
 #![tactic(auto)]
 
@@ -14,12 +16,14 @@ mod asking;
 mod blocks;
 mod checked;
 pub mod fallible;
+mod naps;
 mod signing;
 mod tries;
 mod views;
 
 pub use asking::{allow_allocations, fail_allocations};
 pub use blocks::{name, references, round, shared_block};
-pub use checked::{block, block_with, certificate, committee, key};
+pub use checked::{block, block_with, certificate, committee, four, key};
+pub use naps::Naps;
 pub use tries::{Blocks, newer, older};
 pub use views::{view_of_both, view_of_one};

@@ -3,14 +3,15 @@ use nw_committee::Committee;
 use nw_decode::DecodeError;
 use nw_digest::{NoMemory, Round, Shared};
 use nw_sig::DemoScheme;
-use samples::committee;
 use samples::fallible::Slot;
+use samples::{committee, four};
 use std::alloc::Global;
 use std::test::Fail;
 
 mod altered;
 mod digests;
 mod errors;
+mod lanes;
 mod lengths;
 mod limits;
 mod lines;

@@ -5,6 +5,7 @@ use samples::{allow_allocations, fail_allocations, name, retry, round};
 use std::alloc::Global;
 
 mod dags;
+mod generations;
 mod plains;
 mod tables;
 mod views;

@@ -36,7 +36,7 @@ SECRETS = [secret(member) for member in MEMBERS]
 
 
 class Pcg32:
-    """The generator of crates/example_validator, so that both examples have the same blocks."""
+    """The generator that draws which parents a block has (PCG32)."""
 
     def __init__(self, state, stream):
         self.step = 2 * stream + 1

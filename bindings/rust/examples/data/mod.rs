@@ -1,6 +1,6 @@
 // The messages of corpus.txt. `make.py` signed them beforehand, since the crate makes no signatures.
 
-use narwhal_store::{Checked, Committee, Digest, Limits, Message, PublicKey, Session, Store};
+use narwhal_store::{Checked, Committee, Digest, Limits, PublicKey, Session, Store};
 use std::error::Error;
 
 /// The public keys of the four members.
@@ -26,7 +26,7 @@ pub fn filled() -> Result<(Session, Vec<Digest>), Box<dyn Error>> {
     let mut session = Store::new(&committee, Limits::default())?.session()?;
     let mut certified = Vec::new();
     for message in values("message") {
-        match Message::check(&committee, &message)? {
+        match committee.check(&message)? {
             Checked::Block(block) => drop(session.write(&block)?),
             Checked::Certificate(certificate) => {
                 drop(session.certify(&certificate)?);

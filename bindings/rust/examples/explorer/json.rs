@@ -1,7 +1,7 @@
 //! The JSON of the page.
 
-use crate::network::MEMBERS;
-use crate::node::{Node, Seen};
+use crate::node::{Node, PAGE, Seen};
+use crate::post::MEMBERS;
 use crate::validator::Validator;
 use crate::world::World;
 use narwhal_store::Digest;
@@ -51,6 +51,7 @@ pub fn state(world: &World, store: u16) -> String {
         ("asked", &validator.asked),
         ("replayed", &validator.replayed),
         ("logged", &validator.log.messages.len()),
+        ("loses", &world.post.is_losing(store)),
         ("double_votes", &world.post.double_votes()),
         ("content", &content),
     ])
@@ -88,6 +89,7 @@ fn content_of(node: &mut Node) -> String {
         ("certificates", &status.certificates),
         ("complete", &status.complete),
         ("missing", &status.wanted),
+        ("absent", &node.absent.len()),
         ("events", &node.store.events()),
         ("walk", &array(node.walk.iter().map(text))),
         ("blocks", &array(blocks)),
@@ -111,9 +113,10 @@ pub fn block(node: &mut Node, digest: &Digest) -> Option<String> {
 fn written_of((block, answer): &Seen) -> String {
     let parent =
         |(author, digest): &(u16, Digest)| object([("author", author), ("digest", &text(digest))]);
-    let history = answer.history();
+    let events = answer.history().events();
+    let history: Vec<_> = events.filter(|event| event.session != PAGE).collect();
     let first = history.len().saturating_sub(EVENTS);
-    let events = history.events().skip(first).map(|event| {
+    let events = history[first..].iter().map(|event| {
         object([
             ("session", &event.session),
             ("number", &event.number),

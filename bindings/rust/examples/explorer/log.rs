@@ -2,7 +2,7 @@
 //!
 //! It is in memory and stands for a synced file: `../durable.rs` has a log on disk.
 
-use narwhal_store::{Digest, Message, Peek};
+use narwhal_store::{Digest, Peek};
 
 /// The calls that changed the store: a collection to `garbage_round`, and then the messages.
 #[derive(Default)]
@@ -28,7 +28,7 @@ impl Log {
     pub fn find(&self, digest: &Digest) -> impl Iterator<Item = &Vec<u8>> {
         self.messages
             .iter()
-            .filter(move |message| match Message::peek(message) {
+            .filter(move |message| match Peek::of(message) {
                 Some(Peek::Certificate(subject)) => subject.digest == *digest,
                 _ => digest_of(message) == Some(*digest),
             })
@@ -36,7 +36,7 @@ impl Log {
 }
 
 fn round_of(message: &[u8]) -> Option<u64> {
-    Message::peek(message).map(|peek| peek.round())
+    Peek::of(message).map(|peek| peek.round())
 }
 
 /// The digest of a block's message: that of its body, which is between the tag and the signature.

@@ -5,31 +5,25 @@
 //! cargo run --release --example explorer -- 8080    opens it on this port
 //! ```
 //!
-//! Each validator has a store and a thread. `validator.rs` follows `flow/mod.rs`, and `../../tests/hostile/decide.rs` decides the leaders.
+//! Each validator has a store and a thread. `validator.rs` follows `narwhal_validator::Flow`, and `../../tests/hostile/decide.rs` decides the leaders.
 //! `world.rs` makes the rounds and the faults, `post.rs` is the network, `http.rs` the server, and `page.html` the page.
 //!
 //! The members sign at run time with the demonstration signer of `tests/lab`, whose secrets are public.
 
-#[path = "../data/mod.rs"]
-mod data;
 #[path = "../../tests/hostile/decide.rs"]
 mod decide;
-#[path = "../flow/mod.rs"]
-mod flow;
 mod http;
 mod json;
 #[path = "../../tests/lab/mod.rs"]
 mod lab;
 mod log;
-#[path = "../network/mod.rs"]
-mod network;
 mod node;
 mod post;
 mod site;
 mod validator;
 mod world;
 
-use network::Outcome;
+use post::Outcome;
 use std::env;
 use std::net::TcpListener;
 use world::World;

@@ -1,12 +1,12 @@
 //! The part of a validator that a crash loses: its store, and what is derived from it.
 
 use crate::decide::Decider;
-use crate::flow::Flow;
 use crate::log::digest_of;
-use crate::network::{MEMBERS, Outcome};
+use crate::post::{MEMBERS, Outcome};
 use narwhal_store::{Answer, Block, CertifyReply, Checked, CheckedBlock, CheckedCertificate};
-use narwhal_store::{CollectReply, Committee, Digest, Gather, Limits, Look, Message};
+use narwhal_store::{CollectReply, Committee, Digest, Gather, Limits, Look};
 use narwhal_store::{Peek, Session, Status, Store, Subject, WriteReply};
+use narwhal_validator::Flow;
 use std::collections::{BTreeMap, BTreeSet};
 
 /// How far the garbage round stays below the last leader.
@@ -17,11 +17,13 @@ const SHOWN: u64 = 20;
 pub const ASKED: usize = 8;
 /// The most missing parents that the page shows.
 const LISTED: u16 = 64;
+/// The session of the page. Its calls change nothing, and the histories that the page shows leave them out.
+pub const PAGE: u16 = 2;
 const LIMITS: Limits = Limits {
     blocks: 4_096,
     events: 512,
     window: 64,
-    sessions: 2,
+    sessions: 3,
 };
 
 /// A round, an author and a digest.
@@ -41,8 +43,9 @@ pub struct Node {
     me: u16,
     pub store: Store,
     session: Session,
-    /// The session of the page and of the flow.
-    reader: Session,
+    /// The questions to its store, in a session of their own.
+    pub flow: Flow,
+    page: Session,
     decider: Decider,
     /// The votes for its last block until it has a certificate, the messages of that block, and the round of its next one.
     pub gather: Option<Gather>,
@@ -55,35 +58,30 @@ pub struct Node {
     pub walk: Vec<Digest>,
     pub status: Status,
     /// The certified blocks that are not stored, and the missing parents.
-    absent: Vec<Subject>,
-    missing: Vec<Subject>,
+    pub absent: BTreeSet<Key>,
 }
 
 impl Node {
     pub fn new(me: u16, committee: &Committee) -> Outcome<Node> {
         let store = Store::new(committee, LIMITS)?;
-        let (session, mut reader) = (store.session()?, store.session()?);
+        let (session, reader, mut page) = (store.session()?, store.session()?, store.session()?);
+        let flow = Flow::over(&store, reader);
         Ok(Node {
             me,
             decider: Decider::new(MEMBERS),
-            status: reader.status()?.into_reply(),
+            status: page.status()?.into_reply(),
             store,
             session,
-            reader,
+            flow,
+            page,
             gather: None,
             own: Vec::new(),
             round: 0,
             seen: BTreeMap::new(),
             signers: BTreeMap::new(),
             walk: Vec::new(),
-            absent: Vec::new(),
-            missing: Vec::new(),
+            absent: BTreeSet::new(),
         })
-    }
-
-    /// The questions to its store.
-    pub fn flow(&mut self) -> Flow<'_> {
-        Flow::over(&self.store, &mut self.reader)
     }
 
     /// The highest round of a block or certificate.
@@ -94,28 +92,28 @@ impl Node {
 
     /// Whether the message is worth its check.
     pub fn wants(&mut self, message: &[u8]) -> bool {
-        match Message::peek(message) {
+        match Peek::of(message) {
             Some(Peek::Vote { subject, .. }) => self
                 .gather
                 .as_ref()
                 .is_some_and(|own| own.subject() == subject),
             Some(Peek::Block { round, author }) => {
-                self.flow().wants(message) || self.is_twin(round, author, message)
+                self.flow.wants(message) || self.is_twin(round, author, message)
             }
-            _ => self.flow().wants(message),
+            _ => self.flow.wants(message),
         }
     }
 
     /// Whether this is another block than the first one. A validator drops it. The explorer writes it, so that a history shows `Equivocates`.
     fn is_twin(&mut self, round: u64, author: u16, message: &[u8]) -> bool {
-        let has_first = self.reader.look(round, author).first.is_some();
+        let has_first = self.flow.session().look(round, author).first.is_some();
         let is_new = |digest| !self.seen.contains_key(&(round, author, digest));
         has_first && digest_of(message).is_some_and(is_new)
     }
 
     /// Makes the call of a message. Returns the subjects to vote for if the store changed.
     pub fn call(&mut self, committee: &Committee, message: &[u8]) -> Outcome<Option<Vec<Subject>>> {
-        match Message::check(committee, message) {
+        match committee.check(message) {
             Ok(Checked::Block(block)) => self.write(&block, message),
             Ok(Checked::Certificate(certificate)) => self.certify(&certificate),
             Ok(Checked::Vote(vote)) => {
@@ -138,7 +136,7 @@ impl Node {
             (self.own, self.round) = (vec![message.to_vec()], subject.round + 1);
         }
         self.decider.stored(block);
-        Ok(Some(self.flow().stored(&subject)?))
+        Ok(Some(self.flow.stored(block)))
     }
 
     fn certify(&mut self, certificate: &CheckedCertificate) -> Outcome<Option<Vec<Subject>>> {
@@ -158,13 +156,13 @@ impl Node {
         {
             self.own.push(message);
         }
-        Ok(Some(self.flow().certified(&subject)?))
+        Ok(Some(self.flow.certified(&subject)))
     }
 
     /// Raises the garbage round. Returns the subjects to vote for if it was raised.
     pub fn collect(&mut self, round: u64) -> Outcome<Option<Vec<Subject>>> {
         Ok(match self.session.collect(round)?.into_reply() {
-            CollectReply::Raised { .. } => Some(self.flow().collected(round)?),
+            CollectReply::Raised { .. } => Some(self.flow.collected(round)),
             CollectReply::NotHigher { .. } => None,
         })
     }
@@ -180,9 +178,9 @@ impl Node {
                 let ticket = self.session.causal(&digest)?.into_ticket()?;
                 self.walk = ticket.walk()?.map(|block| block.digest()).collect();
             }
-            let floor = leader.saturating_sub(LAG);
-            if let Some(more) = self.collect(floor)? {
-                raised = Some(floor);
+            let garbage_round = leader.saturating_sub(LAG);
+            if let Some(more) = self.collect(garbage_round)? {
+                raised = Some(garbage_round);
                 due.extend(more);
             }
         }
@@ -193,7 +191,7 @@ impl Node {
     pub fn next_block(&mut self) -> Outcome<Option<(u64, Parents)>> {
         let quorum = self.store.committee().quorum() as usize;
         for round in (self.round.max(1)..self.newest() + 2).rev() {
-            let looks = self.reader.look_round(round - 1)?;
+            let looks = self.flow.session().look_round(round - 1)?;
             let parent = |(author, look): (u16, Look)| {
                 let digest = look.certified.filter(|_| look.stands)?;
                 Some((author, digest))
@@ -208,8 +206,11 @@ impl Node {
 
     /// The digests to ask for: certified blocks that are not stored, and missing parents.
     pub fn unknown(&mut self) -> Outcome<BTreeSet<Digest>> {
-        let mut flow = self.flow();
-        let missing = flow.missing()?.into_iter().chain(flow.doubtful(ASKED)?);
+        let flow = &mut self.flow;
+        let missing = flow
+            .missing(usize::MAX)?
+            .into_iter()
+            .chain(flow.doubtful(ASKED));
         let parents = missing.map(|(_, parent)| parent);
         let subjects = flow.absent()?.into_iter().chain(parents);
         Ok(subjects.map(|subject| subject.digest).collect())
@@ -220,35 +221,29 @@ impl Node {
         let oldest = (self.newest().saturating_sub(SHOWN), 0, Digest([0; 32]));
         self.seen = self.seen.split_off(&oldest);
         self.signers = self.signers.split_off(&oldest);
-        self.status = self.reader.status()?.into_reply();
-        self.missing = match self.status.wanted {
-            0 => Vec::new(),
-            _ => self.reader.missing(LISTED)?.into_reply(),
-        };
-        self.absent = self.flow().absent()?;
+        self.status = self.page.status()?.into_reply();
+        let missing = self.page.missing(LISTED)?.into_reply();
+        let absent = self.flow.absent()?;
+        self.absent = absent.iter().chain(&missing).map(key_of).collect();
         Ok(())
     }
 
     /// The blocks that the page shows, each with its state.
     pub fn rows(&mut self) -> BTreeMap<Key, &'static str> {
         let mut keys: BTreeSet<Key> = self.seen.keys().copied().collect();
-        keys.extend(self.absent.iter().chain(&self.missing).map(key_of));
-        let is_same_slot = |one: &Key, other: &Key| (one.0, one.1) == (other.0, other.1);
-        let count = |key: &Key| keys.iter().filter(|other| is_same_slot(key, other)).count();
-        let state = |key: &Key| (*key, self.state(key, count(key) == 1));
-        keys.iter().map(state).collect()
+        keys.extend(&self.absent);
+        let state = |key: Key| (key, self.state(&key));
+        keys.into_iter().map(state).collect()
     }
 
-    fn state(&mut self, key: &Key, is_alone: bool) -> &'static str {
-        let look = self.reader.look(key.0, key.1);
-        match (look.certified == Some(key.2), look.stands) {
-            _ if key.0 < look.garbage_round => "collected",
-            (true, false) => "missing",
-            (true, true) if look.complete => "complete",
-            (true, true) => "certified",
-            _ if !is_alone => "equivocating",
-            _ if look.first == Some(key.2) => "held",
-            _ => "missing",
+    fn state(&mut self, (round, author, digest): &Key) -> &'static str {
+        let look = self.flow.session().look(*round, *author);
+        match look.certified == Some(*digest) {
+            _ if *round < look.garbage_round => "collected",
+            true if look.complete => "complete",
+            true if look.stands => "certified",
+            false if look.first == Some(*digest) => "stored",
+            _ => "not stored",
         }
     }
 }

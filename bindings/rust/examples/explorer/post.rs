@@ -1,9 +1,9 @@
 //! The network of the explorer: it counts the messages on their way, loses some, and watches the votes.
 
 use crate::lab::Com;
-use crate::network::{MEMBERS, Network, Outcome, Packet};
-use narwhal_store::{Digest, Message, Peek, Subject};
+use narwhal_store::{Digest, Peek, Subject};
 use std::collections::BTreeMap;
+use std::error::Error;
 use std::sync::mpsc::Sender;
 use std::sync::{Condvar, Mutex, MutexGuard, PoisonError};
 use std::time::Duration;
@@ -15,10 +15,17 @@ const MEMORY: u64 = 64;
 /// A round fails if its messages are not handled after this long.
 const PATIENCE: Duration = Duration::from_secs(120);
 
+pub const MEMBERS: u16 = 4;
+
+pub type Outcome<T> = Result<T, Box<dyn Error + Send + Sync>>;
+
+/// A message, with the member that sent it.
+pub type Packet = (u16, Vec<u8>);
+
 pub struct Post {
     /// The committee, and the signers of its members.
     pub com: Com,
-    network: Network,
+    inboxes: Vec<Sender<Packet>>,
     traffic: Mutex<Traffic>,
     is_quiet: Condvar,
 }
@@ -35,10 +42,9 @@ struct Traffic {
 
 impl Post {
     pub fn new(inboxes: Vec<Sender<Packet>>) -> Post {
-        let com = Com::new(MEMBERS);
         Post {
-            network: Network::of(com.committee.clone(), inboxes),
-            com,
+            com: Com::new(MEMBERS),
+            inboxes,
             traffic: Mutex::default(),
             is_quiet: Condvar::new(),
         }
@@ -50,7 +56,7 @@ impl Post {
 
     pub fn send(&self, from: u16, to: u16, message: &[u8]) {
         let mut traffic = self.traffic();
-        match Message::peek(message) {
+        match Peek::of(message) {
             Some(Peek::Block { .. }) if traffic.is_losing[usize::from(to)] => {
                 traffic.is_losing[usize::from(to)] = false;
                 return;
@@ -60,7 +66,7 @@ impl Post {
         }
         traffic.on_their_way += 1;
         drop(traffic);
-        self.network.send(from, to, message);
+        let _ = self.inboxes[usize::from(to)].send((from, message.to_vec()));
     }
 
     pub fn send_to_others(&self, from: u16, message: &[u8]) {
@@ -71,6 +77,11 @@ impl Post {
     /// Loses the next block for the member.
     pub fn lose_next(&self, to: u16) {
         self.traffic().is_losing[usize::from(to)] = true;
+    }
+
+    /// Whether the next block for the member is lost.
+    pub fn is_losing(&self, to: u16) -> bool {
+        self.traffic().is_losing[usize::from(to)]
     }
 
     /// How often a member voted for a second block of a round and author.

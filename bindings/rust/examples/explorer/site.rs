@@ -2,7 +2,7 @@
 
 use crate::http::{Request, Response};
 use crate::json;
-use crate::network::MEMBERS;
+use crate::post::MEMBERS;
 use crate::world::World;
 use narwhal_store::Digest;
 

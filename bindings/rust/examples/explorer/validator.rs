@@ -1,10 +1,9 @@
 //! A validator: it follows docs/EMBEDDING.md, and makes the faults that the page asks for.
 
 use crate::log::Log;
-use crate::network::{MEMBERS, Outcome};
 use crate::node::{ASKED, Node};
-use crate::post::{Post, REQUEST};
-use narwhal_store::{Digest, Message, Peek, Subject};
+use crate::post::{MEMBERS, Outcome, Post, REQUEST};
+use narwhal_store::{Digest, Peek, Subject};
 
 #[derive(Default)]
 pub struct Validator {
@@ -110,7 +109,7 @@ impl Validator {
         }
         self.replayed = self.log.messages.len();
         // The second time that a vote is sent does no harm.
-        let due = node.flow().due(ASKED)?;
+        let due = node.flow.due(ASKED);
         self.vote(&due, post);
         self.node = Some(node);
         Ok(())
@@ -125,7 +124,7 @@ impl Validator {
             self.asked += 1;
             post.send_to_others(self.me, &[&[REQUEST][..], &digest.0].concat());
         }
-        let (due, next) = (node.flow().due(ASKED)?, node.next_block()?);
+        let (due, next) = (node.flow.due(ASKED), node.next_block()?);
         self.vote(&due, post);
         match next {
             _ if self.is_silent => {}
@@ -185,7 +184,7 @@ impl Validator {
 
 /// How many signatures the check of a message verifies.
 fn signatures_of(message: &[u8]) -> u64 {
-    match Message::peek(message) {
+    match Peek::of(message) {
         Some(Peek::Certificate(_)) => (message.len() as u64 - 43) / 66,
         _ => 1,
     }

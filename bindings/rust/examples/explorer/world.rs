@@ -1,7 +1,6 @@
 //! The rounds and the faults of four validators.
 
-use crate::network::{MEMBERS, Outcome, Packet};
-use crate::post::Post;
+use crate::post::{MEMBERS, Outcome, Packet, Post};
 use crate::validator::Validator;
 use std::error::Error;
 use std::process;
@@ -75,12 +74,10 @@ impl World {
 
     /// Handles the messages of a validator.
     fn run(&self, me: u16, inbox: &Receiver<Packet>) {
-        for packet in inbox {
-            if let Packet::Message(from, message) = packet {
-                let handled = self.validator(me).take(from, &message, &self.post);
-                handled.unwrap_or_else(|error| fail(&*error));
-                self.post.handled();
-            }
+        for (from, message) in inbox {
+            let handled = self.validator(me).take(from, &message, &self.post);
+            handled.unwrap_or_else(|error| fail(&*error));
+            self.post.handled();
         }
     }
 

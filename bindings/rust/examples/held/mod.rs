@@ -1,6 +1,6 @@
 //! What a node of one thread takes: the processor time of its checks and calls, and its memory.
 
-use narwhal_store::{Checked, Committee, Limits, Message, Session, Store, Subject, Ticket};
+use narwhal_store::{Checked, Committee, Limits, Session, Store, Subject, Ticket};
 use std::error::Error;
 use std::fs;
 
@@ -97,7 +97,7 @@ pub fn print_heads() {
 impl Node {
     /// Checks a message and makes its call. Returns whether a round was delivered.
     fn take(&mut self, committee: &Committee, message: &[u8]) -> Result<bool> {
-        match Message::check(committee, message)? {
+        match committee.check(message)? {
             Checked::Block(block) => {
                 drop(self.time(|node| Ok(node.session.write(&block)?))?);
                 Ok(false)

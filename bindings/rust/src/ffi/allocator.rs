@@ -40,7 +40,7 @@ pub extern "C" fn nw_mem_alloc(n: usize, align: usize) -> Allocated {
     // SAFETY: malloc takes any size, and aligns to 16.
     let allocated = Allocated::by(|size| unsafe { malloc(size) }, n, align);
     #[cfg(test)]
-    crate::no_memory::note_allocated(allocated.is_there);
+    crate::no_memory::note(allocated.bytes());
     allocated
 }
 
@@ -54,8 +54,15 @@ pub unsafe extern "C" fn nw_mem_realloc(
     n: usize,
     align: usize,
 ) -> Allocated {
+    #[cfg(test)]
+    let before = Allocated { is_there: true, at }.bytes();
     // SAFETY: `at` is from malloc or realloc. If realloc fails, the allocation stays as it is.
-    Allocated::by(|size| unsafe { realloc(at, size) }, n, align)
+    let allocated = Allocated::by(|size| unsafe { realloc(at, size) }, n, align);
+    #[cfg(test)]
+    if allocated.is_there {
+        crate::no_memory::note(allocated.bytes() - before);
+    }
+    allocated
 }
 
 /// Frees an allocation of `nw_mem_alloc`. The library calls it once for each pointer.
@@ -63,7 +70,7 @@ pub unsafe extern "C" fn nw_mem_realloc(
 #[unsafe(no_mangle)]
 pub unsafe extern "C" fn nw_mem_dealloc(at: *mut c_void) {
     #[cfg(test)]
-    crate::no_memory::note_freed();
+    crate::no_memory::note(-Allocated { is_there: true, at }.bytes());
     // SAFETY: `at` is from malloc or realloc, and is not used afterwards.
     unsafe { free(at) }
 }
@@ -80,7 +87,7 @@ global_asm!(
 
 #[cfg(test)]
 mod tests {
-    use super::{Allocated, nw_mem_alloc, nw_mem_dealloc};
+    use super::{Allocated, nw_mem_alloc, nw_mem_dealloc, nw_mem_realloc};
     use std::alloc::{GlobalAlloc, Layout, System};
     use std::cell::Cell;
     use std::ptr;
@@ -109,6 +116,23 @@ mod tests {
         }
     }
 
+    impl Allocated {
+        /// The bytes that the C library gave.
+        pub(in super::super) fn bytes(&self) -> isize {
+            // SAFETY: this is a function of the C library: of glibc and musl, of macOS, or of Windows.
+            unsafe extern "C" {
+                #[cfg_attr(target_os = "macos", link_name = "malloc_size")]
+                #[cfg_attr(windows, link_name = "_msize")]
+                fn malloc_usable_size(at: *mut std::ffi::c_void) -> usize;
+            }
+            match self.is_there {
+                // SAFETY: `at` is from malloc or realloc, and not yet freed.
+                true => unsafe { malloc_usable_size(self.at) as isize },
+                false => 0,
+            }
+        }
+    }
+
     #[test]
     fn the_library_does_not_use_the_global_allocator() {
         let before = GLOBAL.get();
@@ -124,6 +148,47 @@ mod tests {
     fn a_failed_allocation_is_not_there_and_not_null() {
         let failed = Allocated::by(|_| ptr::null_mut(), 8, 8);
         assert!(!failed.is_there && !failed.at.is_null());
+    }
+
+    /// The bytes of this process that are in memory. Systems other than Linux do not tell: 0.
+    fn resident() -> usize {
+        if cfg!(not(target_os = "linux")) {
+            return 0;
+        }
+        let pages = std::fs::read_to_string("/proc/self/statm").unwrap();
+        4_096 * pages.split(' ').nth(1).unwrap().parse::<usize>().unwrap()
+    }
+
+    /// 1,000 allocations of a megabyte are made, grown, written and freed, one after the other.
+    #[test]
+    fn freed_memory_goes_back() {
+        let (size, before) = (1 << 20, resident());
+        for _ in 0..1_000 {
+            let made = nw_mem_alloc(size / 2, 8);
+            // SAFETY: the allocation is resized, written and freed once.
+            unsafe {
+                let grown = nw_mem_realloc(made.at, size / 2, size, 8);
+                grown.at.cast::<u8>().write_bytes(7, size);
+                nw_mem_dealloc(grown.at);
+            }
+        }
+        let grown = resident().saturating_sub(before);
+        assert!(grown < 300 * size, "{grown} bytes are not freed");
+    }
+
+    #[test]
+    fn a_grown_allocation_keeps_its_bytes() {
+        for (size, grown) in [(1, 100), (100, 1_000_000), (5_000, 10)] {
+            // SAFETY: no more is written and read than is allocated, and it is freed once.
+            unsafe {
+                let made = nw_mem_alloc(size, 8);
+                made.at.cast::<u8>().write_bytes(7, size);
+                let other = nw_mem_realloc(made.at, size.min(grown), grown, 8);
+                let kept = std::slice::from_raw_parts(other.at.cast::<u8>(), size.min(grown));
+                assert!(other.is_there && kept.iter().all(|byte| *byte == 7));
+                nw_mem_dealloc(other.at);
+            }
+        }
     }
 
     #[test]

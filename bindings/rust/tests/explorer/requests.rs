@@ -1,6 +1,6 @@
 //! Requests to the explorer, good and bad, and the page in a browser.
 
-use crate::client::{DEADLINE, Explorer, Shown, until};
+use crate::client::{DEADLINE, Explorer, until};
 use std::io::{Read, Write};
 use std::net::TcpStream;
 use std::process::Command;
@@ -143,42 +143,53 @@ fn the_page_loads_nothing_from_another_host() {
     }
 }
 
-/// The script of the page draws what the store has. This needs chromium.
+/// A time limit, a program and its options.
+const CHROMIUM: &str = "120 chromium --headless --no-sandbox --disable-gpu --window-size=1280,800 \
+                        --force-prefers-reduced-motion --virtual-time-budget=4000";
+
+/// The page as its script draws it at this address, or `None` if chromium is not installed. It leaves a picture in
+/// target/tmp/page.png. README's picture is made of it: `pngquant --force --output ../../docs/page.png target/tmp/page.png`.
+fn drawn(address: &str) -> Option<String> {
+    let room = env!("CARGO_TARGET_TMPDIR");
+    let profile = format!("{room}/chromium-{}", std::process::id());
+    let ran = Command::new("timeout")
+        .args(CHROMIUM.split(' '))
+        .arg(format!("--user-data-dir={profile}"))
+        .arg(format!("--screenshot={room}/page.png"))
+        .args(["--dump-dom", address])
+        .output()
+        .expect("timeout");
+    let _ = std::fs::remove_dir_all(profile);
+    let page = String::from_utf8(ran.stdout).expect("a text");
+    let said = String::from_utf8_lossy(&ran.stderr);
+    assert!(
+        ran.status.success() || ran.status.code() == Some(127),
+        "{said}"
+    );
+    ran.status.success().then_some(page)
+}
+
+/// The script of the page draws what the store has, and lights the selected block and its parents.
 #[test]
 fn the_page_draws_the_blocks() {
     let explorer = Explorer::paused();
-    explorer.act("equivocate", 1);
+    explorer.step(6);
+    explorer.act("equivocate", 2);
+    explorer.step(2);
     explorer.act("silent", 3);
     explorer.step(1);
-    let newest = explorer.blocks(0).pop().expect("a block");
-    let folder = std::env::temp_dir().join(format!("narwhal-explorer-{}", std::process::id()));
-    let page = format!("http://{}/#0/{}", explorer.address, newest.digest);
-    let ran = Command::new("timeout")
-        .args([
-            "60",
-            "chromium",
-            "--headless",
-            "--no-sandbox",
-            "--disable-gpu",
-            "--dump-dom",
-        ])
-        .arg(format!("--user-data-dir={}", folder.display()))
-        .args(["--virtual-time-budget=4000", &page])
-        .output();
-    let _ = std::fs::remove_dir_all(folder);
-    let drawn = match ran {
-        Ok(ran) if ran.status.success() => String::from_utf8(ran.stdout).expect("a text"),
-        _ => return println!("skipped: chromium is missing or did not end"),
+    explorer.act("lose", 3);
+    explorer.step(1);
+    let blocks = explorer.blocks(3);
+    let chosen = blocks.iter().rfind(|shown| shown.state == "complete");
+    let chosen = &chosen.expect("a complete block").digest;
+    let Some(page) = drawn(&format!("http://{}/#3/{chosen}", explorer.address)) else {
+        return println!("skipped: the_page_draws_the_blocks: chromium is not installed");
     };
-    for shown in explorer.blocks(0) {
-        let Shown {
-            round,
-            author,
-            state,
-            ..
-        } = shown;
+    for shown in &blocks {
+        let (round, author, state) = (shown.round, shown.author, &shown.state);
         let label = format!("aria-label=\"round {round}, validator {author}, {state}\"");
-        let before = drawn.split_once(&label).map(|(before, _)| before);
+        let before = page.split_once(&label).map(|(before, _)| before);
         let tag = before.and_then(|before| before.rsplit_once("<g "));
         let class = format!("class=\"block {state}");
         assert!(
@@ -186,6 +197,22 @@ fn the_page_draws_the_blocks() {
             "{label} is not drawn"
         );
     }
-    assert!(drawn.contains(&format!("<dd class=\"hex\">{}</dd>", newest.digest)));
-    assert!(drawn.contains("<em>silent</em>") && drawn.contains("class=\"about\""));
+    for state in ["stored", "complete", "collected", "not stored"] {
+        let is_there = blocks.iter().any(|shown| shown.state == state);
+        assert!(is_there, "no block is {state}");
+    }
+    let block = explorer.block(3, chosen);
+    let parents = block.get("written").list("parents").len();
+    assert_eq!(page.matches(" lit\"").count(), parents);
+    let faint = page.matches(" faint\" aria-label").count();
+    assert_eq!(faint, blocks.len() - 1 - parents);
+    for part in [
+        &format!("<dd class=\"hex\">{chosen}</dd>"),
+        "<em>silent</em>",
+        "class=\"about\"",
+        "class=\"twins\"",
+        "A certified block is not stored.",
+    ] {
+        assert!(page.contains(part), "{part} is not drawn");
+    }
 }

@@ -5,7 +5,7 @@
 //! that for which the thread ran, because other programs hardly change it.
 
 use crate::lab::Com;
-use narwhal_store::{Checked, CheckedBlock, CheckedCertificate, Digest, Limits, Message, Session};
+use narwhal_store::{Checked, CheckedBlock, CheckedCertificate, Digest, Limits, Session};
 use narwhal_store::{Status, Store, Subject};
 use std::hint::black_box;
 use std::ops::Range;
@@ -33,7 +33,7 @@ const NEW_BLOCK: u64 = BLOCK + MEMBERS as u64;
 const COMPLETE: u64 = PART * HONEST as u64;
 
 /// The nanoseconds for which this thread ran. `/proc/thread-self/schedstat` tells only those until the last tick.
-fn thread_time() -> f64 {
+pub fn thread_time() -> f64 {
     #[repr(C)]
     struct Timespec {
         seconds: i64,
@@ -91,7 +91,7 @@ impl Costs {
 
     fn block(&self, author: u16, round: u64, parents: &[(u16, Digest)]) -> CheckedBlock {
         let (message, _) = self.com.block(author, round, parents, &[]);
-        match Message::check(&self.com.committee, &message) {
+        match self.com.committee.check(&message) {
             Ok(Checked::Block(block)) => block,
             other => panic!("no block, but {other:?}"),
         }
@@ -99,7 +99,7 @@ impl Costs {
 
     fn certificate(&self, subject: &Subject) -> CheckedCertificate {
         let message = self.com.certificate(subject, &[0]);
-        match Message::check(&self.com.committee, &message) {
+        match self.com.committee.check(&message) {
             Ok(Checked::Certificate(certificate)) => certificate,
             other => panic!("no certificate, but {other:?}"),
         }

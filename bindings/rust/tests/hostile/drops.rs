@@ -1,11 +1,11 @@
 //! What a validator drops before it checks it, and what it asks for.
 
-use crate::flow::{Flow, Missing};
-use crate::honest::{BUDGET, Honest, Rules};
+use crate::honest::{ALLOWANCE, Honest, Rules};
 use crate::lab::Com;
 use crate::world::{Checks, Packet, Post};
-use narwhal_store::{CertifyReply, Checked, Digest, Limits, Message, Session, Store, Subject};
+use narwhal_store::{CertifyReply, Checked, Digest, Limits, Store, Subject};
 use narwhal_store::{CollectReply, WriteReply};
+use narwhal_validator::{Flow, Missing};
 
 const WINDOW: u32 = 16;
 
@@ -13,7 +13,7 @@ const WINDOW: u32 = 16;
 struct Drops {
     com: Com,
     store: Store,
-    session: Session,
+    flow: Flow,
 }
 
 impl Drops {
@@ -25,29 +25,25 @@ impl Drops {
         };
         let store = Store::new(&com.committee, limits).unwrap();
         Drops {
-            session: store.session().unwrap(),
+            flow: Flow::over(&store, store.session().unwrap()),
             store,
             com,
         }
     }
 
-    fn flow(&mut self) -> Flow<'_> {
-        Flow::over(&self.store, &mut self.session)
-    }
-
     /// What the certified blocks lack, and what all others do.
     fn lacks(&mut self) -> [Vec<Missing>; 2] {
-        let (missing, doubtful) = (self.flow().missing(), self.flow().doubtful(usize::MAX));
-        [missing.unwrap(), doubtful.unwrap()]
+        let missing = self.flow.missing(usize::MAX).unwrap();
+        [missing, self.flow.doubtful(usize::MAX)]
     }
 
     /// Writes a block that the store takes. Returns the subjects to vote for.
     fn write(&mut self, message: &[u8]) -> Vec<Subject> {
-        let Ok(Checked::Block(block)) = Message::check(&self.com.committee, message) else {
+        let Ok(Checked::Block(block)) = self.com.committee.check(message) else {
             panic!("no block");
         };
-        match *self.session.write(&block).unwrap().reply() {
-            WriteReply::Stored { .. } => self.flow().stored(&block.subject()).unwrap(),
+        match *self.flow.session().write(&block).unwrap().reply() {
+            WriteReply::Stored { .. } => self.flow.stored(&block),
             other => panic!("{other:?}"),
         }
     }
@@ -56,19 +52,19 @@ impl Drops {
     fn certify(&mut self, subject: &Subject) -> Vec<Subject> {
         let signers: Vec<u16> = (0..self.com.committee.quorum() as u16).collect();
         let message = self.com.certificate(subject, &signers);
-        let Ok(Checked::Certificate(made)) = Message::check(&self.com.committee, &message) else {
+        let Ok(Checked::Certificate(made)) = self.com.committee.check(&message) else {
             panic!("no certificate");
         };
-        let reply = self.session.certify(&made).unwrap().into_reply();
+        let reply = self.flow.session().certify(&made).unwrap().into_reply();
         assert_eq!(reply, CertifyReply::Certified);
-        self.flow().certified(subject).unwrap()
+        self.flow.certified(subject)
     }
 
     /// Raises the garbage round. Returns the subjects to vote for.
     fn collect(&mut self, round: u64) -> Vec<Subject> {
-        let reply = self.session.collect(round).unwrap().into_reply();
+        let reply = self.flow.session().collect(round).unwrap().into_reply();
         assert!(matches!(reply, CollectReply::Raised { .. }));
-        self.flow().collected(round).unwrap()
+        self.flow.collected(round)
     }
 
     /// A block of round 0, which is stored and certified.
@@ -95,12 +91,12 @@ fn copies_of_a_certificate_are_dropped_without_a_check() {
     let signers: Vec<u16> = (0..67).collect();
     let mut copy = drops.com.certificate(&subject, &signers);
     assert_eq!(copy.len(), 4_465);
-    assert!(!drops.flow().wants(&copy));
+    assert!(!drops.flow.wants(&copy));
     copy[100] ^= 1;
-    assert!(!drops.flow().wants(&copy));
+    assert!(!drops.flow.wants(&copy));
     let (_, other) = drops.com.block(8, 0, &[], &[]);
     let certificate = drops.com.certificate(&other, &signers);
-    assert!(drops.flow().wants(&certificate));
+    assert!(drops.flow.wants(&certificate));
 }
 
 /// Repeated blocks, twins, and blocks outside of the window.
@@ -109,21 +105,21 @@ fn refused_blocks_are_dropped_without_a_check() {
     let mut drops = Drops::new(4);
     let (first, subject) = drops.com.block(1, 0, &[], &[]);
     let (twin, of_twin) = drops.com.block(1, 0, &[], &[vec![1]]);
-    assert!(drops.flow().wants(&first) && drops.flow().wants(&twin));
+    assert!(drops.flow.wants(&first) && drops.flow.wants(&twin));
     assert_eq!(drops.write(&first), [subject]);
-    assert!(!drops.flow().wants(&first) && !drops.flow().wants(&twin));
+    assert!(!drops.flow.wants(&first) && !drops.flow.wants(&twin));
     let window = u64::from(WINDOW);
     let [far, near] = [window, window - 1].map(|round| drops.made_up(2, round));
-    assert!(!drops.flow().wants(&far));
-    assert!(drops.flow().wants(&near));
+    assert!(!drops.flow.wants(&far));
+    assert!(drops.flow.wants(&near));
     // The twin is wanted once it is certified, and until it is stored.
     drops.certify(&of_twin);
-    assert!(drops.flow().wants(&twin));
-    assert_eq!(drops.flow().absent().unwrap(), [of_twin]);
+    assert!(drops.flow.wants(&twin));
+    assert_eq!(drops.flow.absent().unwrap(), [of_twin]);
     assert!(drops.write(&twin).is_empty());
-    assert!(!drops.flow().wants(&twin) && drops.flow().absent().unwrap().is_empty());
+    assert!(!drops.flow.wants(&twin) && drops.flow.absent().unwrap().is_empty());
     drops.collect(1);
-    assert!(!drops.flow().wants(&first));
+    assert!(!drops.flow.wants(&first));
 }
 
 /// Of two blocks of a slot, only the certified one waits for its parents, whichever was stored first.
@@ -144,7 +140,7 @@ fn no_block_beside_the_certified_one_waits() {
             drops.certify(&of_twin);
         }
         assert_eq!(drops.lacks(), [vec![], vec![]]);
-        assert_eq!(drops.flow().absent().unwrap(), [of_twin]);
+        assert_eq!(drops.flow.absent().unwrap(), [of_twin]);
         drops.write(&twin);
         let [missing, doubtful] = drops.lacks();
         assert!(missing.iter().all(|(child, _)| *child == of_twin) && doubtful.is_empty());
@@ -178,11 +174,42 @@ fn invented_parents_do_not_hide_the_missing_parent_of_a_certified_block() {
     assert_eq!(missing, [(child, lacking)]);
     assert_eq!(doubtful.len(), 33 * 15 * 67);
     // Only the author of such a block is asked, and for a few parents at a time.
-    assert_eq!(drops.flow().doubtful(8).unwrap().len(), 33 * 8);
+    assert_eq!(drops.flow.doubtful(8).len(), 33 * 8);
     // And only a few of its blocks are looked at again for a vote.
     let before = drops.store.events();
-    assert!(drops.flow().due(8).unwrap().is_empty());
-    assert!(drops.store.events() - before <= 33 * 8);
+    assert!(drops.flow.due(8).is_empty());
+    assert_eq!(drops.store.events(), before);
+}
+
+/// 33 of 100 members write blocks with 100 made-up parents, and all others theirs, before the certificates of the round below. No look at
+/// parents is an event.
+#[test]
+fn no_certificate_asks_for_the_parents_of_all_waiting_blocks() {
+    let mut drops = Drops::new(100);
+    let made: Vec<_> = (0..100)
+        .map(|author| drops.com.block(author, 0, &[], &[]))
+        .collect();
+    let all: Vec<_> = made.iter().map(|(_, of)| (of.author, of.digest)).collect();
+    let made_up: Vec<_> = (0..100)
+        .map(|author| (author, Digest([author as u8; 32])))
+        .collect();
+    let before = drops.store.events();
+    let mut children = Vec::new();
+    for author in 0..100 {
+        let parents = if author < 33 { &made_up } else { &all };
+        let (message, child) = drops.com.block(author, 1, parents, &[]);
+        assert!(drops.write(&message).is_empty());
+        children.extend((author >= 33).then_some(child));
+    }
+    for (message, subject) in &made {
+        assert_eq!(drops.write(message), [*subject]);
+    }
+    for (_, subject) in &made[..99] {
+        assert!(drops.certify(subject).is_empty());
+    }
+    assert_eq!(drops.certify(&made[99].1), children);
+    assert_eq!(drops.flow.due(8), children);
+    assert_eq!(drops.store.events() - before, 200 + 100);
 }
 
 /// Blocks of 33 members that invent 100 parents each wait for nothing once their rounds are collected.
@@ -201,8 +228,8 @@ fn blocks_with_100_unmet_parents_are_collected() {
     // Blocks of the garbage round need no parents.
     assert_eq!(drops.collect(rounds.end - 1).len(), 33);
     assert!(drops.collect(rounds.end).is_empty() && drops.lacks() == [vec![], vec![]]);
-    assert_eq!(drops.session.status().unwrap().reply().blocks, 0);
-    assert!(drops.session.missing(1).unwrap().reply().is_empty());
+    assert_eq!(drops.flow.session().status().unwrap().reply().blocks, 0);
+    assert!(drops.flow.session().missing(1).unwrap().reply().is_empty());
 }
 
 /// A vote waits for all parents, whichever comes last: a block, a certificate, or a collection.
@@ -227,7 +254,7 @@ fn a_vote_waits_for_all_parents() {
     assert!(drops.certify(subject).is_empty());
     // It needs no vote then, but the block over it gets one.
     assert_eq!(drops.write(message), [child]);
-    assert_eq!(drops.flow().due(1).unwrap(), [child]);
+    assert_eq!(drops.flow.due(1), [child]);
     let others = [0, 1, 2].map(|author| (author, child.digest));
     let (message, next) = drops.com.block(2, 2, &others, &[]);
     assert!(drops.write(&message).is_empty());
@@ -243,7 +270,7 @@ fn a_peer_over_its_budget_is_not_checked() {
     let mut honest = Honest::new(&com, 0, Rules::Follows);
     let (mut checks, mut post) = (Checks::default(), Post::new(4));
     let (mut forged, _) = com.block(2, 0, &[], &[vec![7; 1_000]]);
-    let most = BUDGET / forged.len();
+    let most = ALLOWANCE.bytes / forged.len();
     let mut flood = |honest: &mut Honest, from, checks: &mut Checks, post: &mut Post| {
         for number in 0..1_000_u32 {
             let at = forged.len() - 4;

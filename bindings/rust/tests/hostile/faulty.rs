@@ -4,7 +4,7 @@ use crate::honest::LIMITS;
 use crate::lab::Com;
 use crate::simulator_draw::Draw;
 use crate::world::{Packet, Post};
-use narwhal_store::{Digest, Message, Peek, Subject};
+use narwhal_store::{Digest, Peek, Subject};
 use std::collections::{BTreeMap, BTreeSet};
 use std::rc::Rc;
 
@@ -92,7 +92,7 @@ impl<'a> Faulty<'a> {
             self.heard.swap_remove(draw.index(100));
         }
         self.heard.push(message.clone());
-        match Message::peek(message) {
+        match Peek::of(message) {
             Some(Peek::Certificate(subject)) => {
                 let round = self.certified.entry(subject.round).or_default();
                 round.insert(subject.author, subject.digest);

@@ -1,7 +1,7 @@
 //! Floods of messages: repeated, refused and large ones. The history of a store stays small under each.
 
 use crate::lab::Com;
-use narwhal_store::{Checked, CheckedBlock, CheckedCertificate, Digest, Limits, Message, Store};
+use narwhal_store::{Checked, CheckedBlock, CheckedCertificate, Digest, Limits, Store};
 use narwhal_store::{Session, Subject, WriteReply};
 use std::fs;
 
@@ -25,7 +25,7 @@ impl Flooded {
     }
 
     fn block(&self, message: &[u8]) -> CheckedBlock {
-        match Message::check(&self.com.committee, message) {
+        match self.com.committee.check(message) {
             Ok(Checked::Block(block)) => block,
             other => panic!("no block, but {other:?}"),
         }
@@ -33,7 +33,7 @@ impl Flooded {
 
     fn certificate(&self, subject: &Subject, signers: &[u16]) -> CheckedCertificate {
         let message = self.com.certificate(subject, signers);
-        match Message::check(&self.com.committee, &message) {
+        match self.com.committee.check(&message) {
             Ok(Checked::Certificate(certificate)) => certificate,
             other => panic!("no certificate, but {other:?}"),
         }
@@ -84,7 +84,7 @@ fn a_block_replayed_100_000_times_fills_nothing() {
     let block = flooded.block(&message);
     assert_eq!(message.len(), 102);
     assert_eq!(flooded.write(&block), WriteReply::Stored { vote: true });
-    let far = flooded.block(&flooded.far(512, &[]));
+    let far = flooded.block(&flooded.far(480, &[]));
     for _ in 0..50_000 {
         assert_eq!(flooded.write(&block), WriteReply::Held);
     }
@@ -133,12 +133,12 @@ fn a_certificate_replayed_100_000_times_fills_nothing() {
 #[test]
 fn long_lists_of_missing_parents_stay_within_the_bound() {
     let mut flooded = Flooded::new();
-    for round in 1..500 {
+    for round in 1..470 {
         flooded.write(&flooded.block(&flooded.far(round, &[])));
     }
     for _ in 0..1_000 {
         let listed = flooded.session.missing(u16::MAX).unwrap().into_reply();
-        assert_eq!(listed.len(), 3 * 499);
+        assert_eq!(listed.len(), 3 * 469);
         assert!(flooded.store.history_bytes() <= Store::HISTORY_BYTES);
     }
 }

@@ -1,12 +1,12 @@
 //! A validator that follows docs/EMBEDDING.md: peek, drop, check, write, vote once the parents are satisfied, send.
 
 use crate::decide::Decider;
-use crate::flow::Flow;
 use crate::lab::Com;
 use crate::world::{Checks, Packet, Post};
 use narwhal_store::WriteReply;
 use narwhal_store::{CertifyReply, Checked, CheckedBlock, CheckedCertificate, CollectReply};
-use narwhal_store::{Digest, Gather, Limits, Look, Message, Peek, Session, Store, Subject};
+use narwhal_store::{Digest, Gather, Limits, Look, Peek, Store, Subject};
+use narwhal_validator::{Allowance, Budgets, Flow};
 use std::collections::{BTreeMap, HashMap};
 use std::rc::Rc;
 
@@ -20,8 +20,12 @@ pub const LIMITS: Limits = Limits {
 const KEPT_BYTES: usize = 20_000;
 /// The bytes at which a store restarts its history.
 pub const HISTORY_BYTES: u64 = 60_000;
-/// The most bytes of one peer that a validator checks between two ticks.
-pub const BUDGET: usize = 40_000;
+/// The most that a validator checks of one peer, and sends one to answer requests, between two ticks.
+pub const ALLOWANCE: Allowance = Allowance {
+    bytes: 40_000,
+    signatures: 200,
+    served: 40_000,
+};
 /// The most parents that a validator asks one author for between two ticks.
 const ASKED: usize = 8;
 
@@ -43,7 +47,7 @@ pub struct Honest<'a> {
     com: &'a Com,
     rules: Rules,
     pub store: Store,
-    session: Session,
+    flow: Flow,
     pub decider: Decider,
     /// The votes for its last own block, and the messages of that block and its certificate.
     gather: Option<Gather>,
@@ -53,8 +57,7 @@ pub struct Honest<'a> {
     /// The messages of its stored blocks and certificates, which a validator has on its disk.
     disk: HashMap<Digest, Vec<Rc<[u8]>>>,
     votes: BTreeMap<(u64, u16), Digest>,
-    /// The bytes of each peer that it checked since the last tick.
-    spent: Vec<usize>,
+    budgets: Budgets,
     kept: Vec<Rc<[u8]>>,
 }
 
@@ -68,7 +71,7 @@ impl<'a> Honest<'a> {
             me,
             com,
             rules,
-            session: store.session().expect("a session"),
+            flow: Flow::over(&store, store.session().expect("a session")),
             store,
             decider: Decider::new(members),
             gather: None,
@@ -76,13 +79,9 @@ impl<'a> Honest<'a> {
             round: 0,
             disk: HashMap::new(),
             votes: BTreeMap::new(),
-            spent: vec![0; members.into()],
+            budgets: Budgets::new(members.into(), ALLOWANCE),
             kept: Vec::new(),
         }
-    }
-
-    fn flow(&mut self) -> Flow<'_> {
-        Flow::over(&self.store, &mut self.session)
     }
 
     /// The bytes that it keeps outside of its store and its disk.
@@ -95,7 +94,11 @@ impl<'a> Honest<'a> {
     pub fn take(&mut self, from: u16, packet: &Packet, checks: &mut Checks, post: &mut Post) {
         match packet {
             Packet::Fetch(subject) => {
-                for message in self.disk.get(&subject.digest).into_iter().flatten() {
+                let found = self.disk.get(&subject.digest).into_iter().flatten();
+                for message in found {
+                    if !self.budgets.serve(from, message.len()) {
+                        return;
+                    }
                     post.send(self.me, from, Packet::Message(message.clone()));
                 }
             }
@@ -114,18 +117,13 @@ impl<'a> Honest<'a> {
     /// Whether the message is worth its check.
     fn wants(&mut self, from: u16, message: &[u8]) -> bool {
         let is_own = |gather: &Gather, subject: Subject| gather.subject() == subject;
-        let is_wanted = match Message::peek(message) {
+        let is_wanted = match Peek::of(message) {
             Some(Peek::Vote { subject, .. }) => {
                 self.gather.as_ref().is_some_and(|own| is_own(own, subject))
             }
-            _ => self.checks_all() || self.flow().wants(message),
+            _ => self.checks_all() || self.flow.wants(message),
         };
-        let spent = &mut self.spent[usize::from(from)];
-        let is_within = from == self.me || *spent + message.len() <= BUDGET;
-        if is_wanted && is_within {
-            *spent += message.len();
-        }
-        is_wanted && is_within
+        is_wanted && (from == self.me || self.budgets.check(from, message))
     }
 
     fn handle(&mut self, message: &Rc<[u8]>, checks: &mut Checks, post: &mut Post) {
@@ -150,14 +148,20 @@ impl<'a> Honest<'a> {
 
     fn write(&mut self, block: &CheckedBlock, message: &Rc<[u8]>, post: &mut Post) {
         let subject = block.subject();
-        match self.session.write(block).expect("memory").into_reply() {
+        match self
+            .flow
+            .session()
+            .write(block)
+            .expect("memory")
+            .into_reply()
+        {
             WriteReply::Stored { vote } => {
                 self.disk
                     .entry(subject.digest)
                     .or_default()
                     .push(message.clone());
                 self.decider.stored(block);
-                let due = self.flow().stored(&subject).expect("memory");
+                let due = self.flow.stored(block);
                 match self.rules {
                     Rules::VotesAtOnce if vote => self.vote(&[subject], post),
                     Rules::VotesAtOnce => {}
@@ -174,7 +178,8 @@ impl<'a> Honest<'a> {
     fn certify(&mut self, certificate: &CheckedCertificate, message: &Rc<[u8]>, post: &mut Post) {
         let subject = certificate.subject();
         match self
-            .session
+            .flow
+            .session()
             .certify(certificate)
             .expect("memory")
             .into_reply()
@@ -184,7 +189,7 @@ impl<'a> Honest<'a> {
                     .entry(subject.digest)
                     .or_default()
                     .push(message.clone());
-                let due = self.flow().certified(&subject).expect("memory");
+                let due = self.flow.certified(&subject);
                 self.vote_later(&due, post);
                 self.decide(post);
             }
@@ -211,10 +216,15 @@ impl<'a> Honest<'a> {
 
     /// Decides leaders, and collects what they leave behind.
     fn decide(&mut self, post: &mut Post) {
-        while let Some(floor) = self.decider.decide(&mut self.session) {
-            let reply = self.session.collect(floor).expect("memory").into_reply();
+        while let Some(floor) = self.decider.decide(self.flow.session()) {
+            let reply = self
+                .flow
+                .session()
+                .collect(floor)
+                .expect("memory")
+                .into_reply();
             if let CollectReply::Raised { .. } = reply {
-                let due = self.flow().collected(floor).expect("memory");
+                let due = self.flow.collected(floor);
                 self.vote_later(&due, post);
             }
         }
@@ -222,7 +232,7 @@ impl<'a> Honest<'a> {
 
     /// Makes its next block if a quorum of parents is satisfied, asks for what is missing, and gives each peer a new budget.
     pub fn tick(&mut self, checks: &mut Checks, post: &mut Post) {
-        self.spent.fill(0);
+        self.budgets.renew();
         for message in self.own.clone() {
             post.broadcast(self.me, &message);
         }
@@ -232,7 +242,7 @@ impl<'a> Honest<'a> {
 
     fn propose(&mut self, checks: &mut Checks, post: &mut Post) {
         let quorum = self.com.committee.quorum() as usize;
-        let floor = self.session.look(0, 0).garbage_round;
+        let floor = self.flow.session().look(0, 0).garbage_round;
         for round in (self.round..floor + u64::from(LIMITS.window)).rev() {
             let parents = self.parents(round);
             if round > 0 && parents.len() < quorum {
@@ -255,7 +265,7 @@ impl<'a> Honest<'a> {
         let Some(preceding) = round.checked_sub(1) else {
             return Vec::new();
         };
-        let looks = self.session.look_round(preceding).expect("memory");
+        let looks = self.flow.session().look_round(preceding).expect("memory");
         let parent = |(author, look): (u16, Look)| {
             let digest = look.certified.filter(|_| look.stands)?;
             Some((author, digest))
@@ -265,13 +275,13 @@ impl<'a> Honest<'a> {
 
     /// Asks several members for what certified blocks need, and only the author for what its other blocks need.
     fn ask(&mut self, post: &mut Post) {
-        for subject in self.flow().absent().expect("memory") {
+        for subject in self.flow.absent().expect("memory") {
             post.ask_some(self.me, subject.author, subject);
         }
-        for (child, parent) in self.flow().missing().expect("memory") {
+        for (child, parent) in self.flow.missing(usize::MAX).expect("memory") {
             post.ask_some(self.me, child.author, parent);
         }
-        for (child, parent) in self.flow().doubtful(ASKED).expect("memory") {
+        for (child, parent) in self.flow.doubtful(ASKED) {
             post.send(self.me, child.author, Packet::Fetch(parent));
         }
     }
@@ -285,8 +295,8 @@ impl<'a> Honest<'a> {
 
     /// The store has at most as many blocks as the window has slots.
     pub fn check_blocks(&mut self) {
-        let status = self.session.status().expect("memory").into_reply();
-        let most = self.spent.len() as u64 * u64::from(LIMITS.window);
+        let status = self.flow.session().status().expect("memory").into_reply();
+        let most = self.com.committee.size() as u64 * u64::from(LIMITS.window);
         assert!(status.blocks <= most, "{} blocks are stored", status.blocks);
     }
 }

@@ -4,7 +4,7 @@ use crate::faulty::{ATTACKS, Attack, Faulty};
 use crate::honest::{Honest, Rules};
 use crate::lab::Com;
 use crate::simulator_draw::Draw;
-use narwhal_store::{CheckError, Checked, Message, Subject};
+use narwhal_store::{CheckError, Checked, Subject};
 use std::collections::{BTreeMap, HashMap};
 use std::rc::Rc;
 
@@ -71,7 +71,7 @@ pub struct Checks(pub HashMap<Rc<[u8]>, Rc<Result<Checked, CheckError>>>);
 
 impl Checks {
     pub fn check(&mut self, com: &Com, message: &Rc<[u8]>) -> Rc<Result<Checked, CheckError>> {
-        let check = || Rc::new(Message::check(&com.committee, message));
+        let check = || Rc::new(com.committee.check(message));
         self.0.entry(message.clone()).or_insert_with(check).clone()
     }
 }

@@ -73,7 +73,7 @@ impl Com {
 #[cfg(test)]
 mod tests {
     use super::Com;
-    use narwhal_store::{BlockFault, CertificateFault, CheckError, Checked, Gather, Message};
+    use narwhal_store::{BlockFault, CertificateFault, CheckError, Checked, Gather};
 
     #[test]
     fn messages_of_all_members_pass_their_checks() {
@@ -82,14 +82,14 @@ mod tests {
         let mut parents = Vec::new();
         for &author in &everybody {
             let (message, subject) = com.block(author, 0, &[], &[vec![7; 3]]);
-            let checked = Message::check(&com.committee, &message);
+            let checked = com.committee.check(&message);
             assert!(matches!(checked, Ok(Checked::Block(block)) if block.subject() == subject));
             parents.push((author, subject.digest));
         }
         let (message, subject) = com.block(99, 1, &parents, &[]);
-        assert!(Message::check(&com.committee, &message).is_ok());
+        assert!(com.committee.check(&message).is_ok());
         let message = com.certificate(&subject, &everybody);
-        let checked = Message::check(&com.committee, &message);
+        let checked = com.committee.check(&message);
         assert!(matches!(checked, Ok(Checked::Certificate(made)) if made.subject() == subject));
     }
 
@@ -99,9 +99,7 @@ mod tests {
         let (_, subject) = com.block(2, 0, &[], &[]);
         let mut gather = Gather::new(&com.committee, &subject).unwrap();
         for (signer, quorum) in [(0, false), (1, true)] {
-            let Ok(Checked::Vote(vote)) =
-                Message::check(&com.committee, &com.vote(&subject, signer))
-            else {
+            let Ok(Checked::Vote(vote)) = com.committee.check(&com.vote(&subject, signer)) else {
                 panic!("the message is a vote");
             };
             assert_eq!(gather.add(&vote), Ok(quorum));
@@ -117,11 +115,11 @@ mod tests {
         let com = Com::new(4);
         let (mut message, subject) = com.block(3, 0, &[], &[]);
         *message.last_mut().unwrap() ^= 1;
-        let fault = Message::check(&com.committee, &message).unwrap_err();
+        let fault = com.committee.check(&message).unwrap_err();
         assert_eq!(fault, CheckError::Block(BlockFault::Signature));
         let mut message = com.certificate(&subject, &[0, 2, 3]);
         *message.last_mut().unwrap() ^= 1;
-        let fault = Message::check(&com.committee, &message).unwrap_err();
+        let fault = com.committee.check(&message).unwrap_err();
         assert_eq!(
             fault,
             CheckError::Certificate(CertificateFault::Signature { signer: 3 })

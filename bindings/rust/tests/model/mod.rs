@@ -41,7 +41,9 @@ pub enum Call {
 /// What a state has in a slot.
 #[derive(Clone, Copy, Debug, Default, PartialEq)]
 pub struct Look {
+    pub newest_round: u64,
     pub first: Option<Digest>,
+    pub missing: usize,
     pub certified: Option<Digest>,
     pub stands: bool,
     pub complete: bool,
@@ -290,7 +292,9 @@ impl Model {
         let mut looks: BTreeMap<u16, Look> = BTreeMap::new();
         let complete = self.complete();
         for ((_, author), first) in self.firsts.range((round, 0)..=(round, u16::MAX)) {
-            looks.entry(*author).or_default().first = Some(*first);
+            let look = looks.entry(*author).or_default();
+            look.first = Some(*first);
+            look.missing = self.wanted_by(&self.blocks[first]).len();
         }
         let kept = self.certificates.values();
         for kept in kept.filter(|kept| kept.slot.0 == round) {
@@ -298,6 +302,12 @@ impl Model {
             look.certified = Some(kept.digest);
             look.stands = self.blocks.contains_key(&kept.digest);
             look.complete = complete.contains(&kept.digest);
+        }
+        let kept = self.certificates.values().map(|kept| kept.slot.0);
+        let rounds = self.firsts.keys().map(|slot| slot.0).chain(kept);
+        let newest_round = rounds.fold(self.floor, u64::max);
+        for look in looks.values_mut() {
+            look.newest_round = newest_round;
         }
         looks
     }

@@ -177,6 +177,8 @@ pub fn block_of(block: &narwhal_store::Block) -> Block {
 /// The model's look.
 pub fn look_of(look: &narwhal_store::Look) -> Look {
     Look {
+        newest_round: look.newest_round,
+        missing: look.missing,
         first: look.first.map(|digest| digest.0),
         certified: look.certified.map(|digest| digest.0),
         stands: look.stands,

@@ -6,7 +6,7 @@ mod file;
 use crate::model::{Block, Call, Certificate, Digest, Slot};
 pub use file::committee;
 use file::records;
-use narwhal_store::{Checked, Committee, check_all};
+use narwhal_store::{Checked, Committee};
 use std::collections::BTreeMap;
 use std::sync::Arc;
 
@@ -67,7 +67,7 @@ impl Case {
                 _ => refused.push(refused_of(record)),
             }
         }
-        let checked = check_all(&committee, &texts, 2).into_iter();
+        let checked = committee.check_all(&texts, 2).into_iter();
         let checked = checked.map(|checked| checked.expect("a message that the script signed"));
         let deliveries: Vec<_> = checked.zip(calls).map(Delivery::new).collect();
         let mut of_digest: BTreeMap<_, Vec<_>> = BTreeMap::new();

@@ -1,8 +1,9 @@
 //! Making blocks from their parts.
-ghost use Rattle.std.specs.Prelude.{◌≡◌, ◌^◌, ◌≤◌, pos, map, IfOk, IfErr, true};
+ghost use Rattle.std.specs.Prelude.{◌≡◌, ◌^◌, ◌∷◌, ◌<◌, [], pos, map, IfOk, IfErr, true, false};
 ghost use Rattle.nw_c.specs.Blocks.{AreCutFrom, CannotBeCut, IsMadeBlock, IsNoBlock, parent_in};
 ghost use Rattle.nw_c.specs.Kinds.{IsUnchanged};
-ghost use Rattle.nw_c.specs.declared.codes.TheConstants.{BAD_ROUND, OPEN, OVER_LIMIT};
+ghost use Rattle.nw_c.specs.Codes.{IsFirstUnmet, IsOneOf};
+ghost use Rattle.nw_c.specs.declared.codes.TheConstants.{BAD_ROUND, DONE, NO_MEMORY, OPEN, OVER_LIMIT};
 
 use super::CParent;
 use crate::codes::{BAD_ROUND, NO_MEMORY, OPEN, OVER_LIMIT};
@@ -33,7 +34,7 @@ fn parents_of(alloc: Global, listed: &[CParent]) -> Result<Vec<Ref>, NoMemory>
 /// Cuts the bytes into transactions of these lengths, in order. The error is the code to return.
 fn transactions_of(alloc: Global, bytes: &[u8], lengths: &[u32]) -> Result<Transactions, i32>
     ensures made { IfOk result (AreCutFrom bytes.now lengths.now) }
-    ensures refused { IfErr result (λ why. (why ≡ pos 0 → ⊥) × (why ≡ OPEN → ⊥) × (why ≡ BAD_ROUND → ⊥)) }
+    ensures named { IfErr result (IsOneOf (NO_MEMORY ∷ OVER_LIMIT ∷ [])) }
     ensures over_limit { IfErr result
         (λ why. why ≡ OVER_LIMIT → CannotBeCut bytes.now lengths.now) }
 {
@@ -73,10 +74,11 @@ pub extern "C" fn nw_block_new(
         → IsMadeBlock author round parents.now transactions.now lengths.now out.new.value }
     ensures unchanged { (result ≡ pos 0 → ⊥) → IsUnchanged out.old out.new }
     ensures opened { result ≡ pos 0 → out.new.held ≡ true }
-    ensures occupied { result ≡ OPEN → out.old.held ≡ true }
-    ensures bad_round { result ≡ BAD_ROUND → 2 ^ 48 ≤ round }
     ensures over_limit { result ≡ OVER_LIMIT
         → IsNoBlock author round parents.now transactions.now lengths.now }
+    ensures code { IsFirstUnmet
+        ((OPEN, out.old.held ≡ false) ∷ (BAD_ROUND, round < 2 ^ 48) ∷ [])
+        (DONE ∷ NO_MEMORY ∷ OVER_LIMIT ∷ []) result }
 {
     if out.is_open() {
         return OPEN;

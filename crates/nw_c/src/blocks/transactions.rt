@@ -1,9 +1,10 @@
 //! Copying the transactions of a block.
-ghost use Rattle.std.specs.Prelude.{◌≡◌, ◌≤◌, pos, length, map, take, true};
+ghost use Rattle.std.specs.Prelude.{◌≡◌, ◌∷◌, ◌≤◌, [], pos, length, map, take, true};
 ghost use Rattle.std.specs.List.{flat_map};
 ghost use Rattle.nw_c.specs.Blocks.{AreCutFrom, HasNoRoom, HasTransactions, NeedMoreThan};
 ghost use Rattle.nw_c.specs.Kinds.{IsUnchanged, HoldsBlock};
-ghost use Rattle.nw_c.specs.declared.codes.TheConstants.{CLOSED, OTHER_KIND, OVER_LIMIT, SMALL};
+ghost use Rattle.nw_c.specs.Codes.{IsFirstUnmet};
+ghost use Rattle.nw_c.specs.declared.codes.TheConstants.{CLOSED, DONE, OTHER_KIND, SMALL};
 
 use crate::codes::{CLOSED, DONE, OTHER_KIND, SMALL};
 use crate::content::Content;
@@ -47,6 +48,7 @@ fn copied(
     ensures small { (result ≡ pos 0 → ⊥)
         → (result ≡ SMALL) × (needed.new ≡ length (flat_map (λ t. t) transactions.now))
         × NeedMoreThan (length bytes.old) (length lengths.old) transactions.now }
+    ensures fits { result ≡ pos 0 → needed.new ≤ length bytes.old }
     ensures unchanged { (result ≡ pos 0 → ⊥) → (bytes.new ≡ bytes.old) × (lengths.new ≡ lengths.old) }
 {
     let size = size_of_all(transactions);
@@ -71,12 +73,14 @@ pub extern "C" fn nw_block_transactions(
     ensures transactions { result ≡ pos 0
         → HasTransactions block.old.value (take needed.new buffer.new) lengths.new }
     ensures same { IsUnchanged block.old block.new }
-    ensures closed { result ≡ CLOSED → block.old.held ≡ true → ⊥ }
-    ensures other_kind { result ≡ OTHER_KIND → HoldsBlock block.old.value → ⊥ }
-    ensures over_limit { result ≡ OVER_LIMIT → ⊥ }
     ensures small { result ≡ SMALL
         → HasNoRoom block.old.value (length buffer.old) (length lengths.old) needed.new }
     ensures unchanged { (result ≡ pos 0 → ⊥) → (buffer.new ≡ buffer.old) × (lengths.new ≡ lengths.old) }
+    ensures fits { result ≡ pos 0 → needed.new ≤ length buffer.old }
+    ensures needed { (result ≡ pos 0 → ⊥) → (result ≡ SMALL → ⊥) → needed.new ≡ needed.old }
+    ensures code { IsFirstUnmet
+        ((CLOSED, block.old.held ≡ true) ∷ (OTHER_KIND, HoldsBlock block.old.value) ∷ [])
+        (DONE ∷ SMALL ∷ []) result }
 {
     if !block.is_open() {
         return CLOSED;

@@ -1,14 +1,14 @@
 //! The calls of a session that hand in neither a block nor a certificate.
-ghost use Rattle.std.specs.Prelude.{◌≡◌, ◌⊎◌, ◌^◌, ◌≤◌, pos, None, true, IfErr, IfOk, OnErr};
+ghost use Rattle.std.specs.Prelude.{◌≡◌, ◌^◌, ◌∷◌, ◌<◌, [], pos, None, true, IfErr, IfOk};
 ghost use Rattle.nw_ed25519.specs.Accepts.{accepts};
 ghost use Rattle.nw_model.specs.declared.call.Call.TheVariants as Call;
-ghost use Rattle.nw_book.specs.Journal.{origin_of};
-ghost use Rattle.nw_shared_store.specs.Session.{IsRefused};
+ghost use Rattle.nw_shared_store.specs.Session.{IsRefusedBy, IsSameSession};
 ghost use Rattle.nw_shared_store.specs.declared.error.Refusal.{Refusal};
 ghost use Rattle.nw_c.specs.Kinds.{HoldsRoom, HoldsSession, IsUnchanged};
 ghost use Rattle.nw_c.specs.Plain.{digest_in};
 ghost use Rattle.nw_c.specs.Sessions.{IsCalled, IsCausalRead, IsReadBy, IsRefusedTo};
 ghost use Rattle.nw_c.specs.Stores.{refusal_code};
+ghost use Rattle.nw_c.specs.Codes.{IsFirstUnmet, IsOneOf, call_codes, early_codes};
 ghost use Rattle.nw_c.specs.declared.codes.TheConstants.{BAD_ROUND, CLOSED, OTHER_KIND};
 
 use super::call;
@@ -42,13 +42,14 @@ pub extern "C" fn nw_session_certificate(
     ensures called { result ≡ pos 0 → IsCalled accepts (Call.Certificate (digest_in digest.now))
         session.old.value session.new.value answer.new.value }
     ensures refused { (why : Refusal) → result ≡ refusal_code why
-        → IsRefusedTo accepts session.old.value None why }
-    ensures unchanged { (result ≡ pos 0 → ⊥) → IsUnchanged session.old session.new }
+        → IsRefusedTo accepts session.old.value session.new.value None why }
+    ensures unchanged { IsOneOf early_codes result → IsUnchanged session.old session.new }
     ensures answer { (result ≡ pos 0 → ⊥) → IsUnchanged answer.old answer.new }
     ensures stays { session.new.held ≡ session.old.held }
     ensures answer_stays { answer.new.held ≡ answer.old.held }
-    ensures closed { result ≡ CLOSED → session.old.held ≡ true → answer.old.held ≡ true → ⊥ }
-    ensures other_kind { result ≡ OTHER_KIND → HoldsSession session.old.value → HoldsRoom answer.old.value → ⊥ }
+    ensures code { IsFirstUnmet
+        ((CLOSED, (session.old.held ≡ true) × (answer.old.held ≡ true)) ∷ (OTHER_KIND, HoldsSession session.old.value × HoldsRoom answer.old.value) ∷ [])
+        call_codes result }
 {
     let _lent: Lent<'_> = (None, None);
     let command = Command::Certificate(digest.get());
@@ -66,13 +67,14 @@ pub extern "C" fn nw_session_read(
     ensures called { result ≡ pos 0 → IsCalled accepts (Call.Read (digest_in digest.now))
         session.old.value session.new.value answer.new.value }
     ensures refused { (why : Refusal) → result ≡ refusal_code why
-        → IsRefusedTo accepts session.old.value None why }
-    ensures unchanged { (result ≡ pos 0 → ⊥) → IsUnchanged session.old session.new }
+        → IsRefusedTo accepts session.old.value session.new.value None why }
+    ensures unchanged { IsOneOf early_codes result → IsUnchanged session.old session.new }
     ensures answer { (result ≡ pos 0 → ⊥) → IsUnchanged answer.old answer.new }
     ensures stays { session.new.held ≡ session.old.held }
     ensures answer_stays { answer.new.held ≡ answer.old.held }
-    ensures closed { result ≡ CLOSED → session.old.held ≡ true → answer.old.held ≡ true → ⊥ }
-    ensures other_kind { result ≡ OTHER_KIND → HoldsSession session.old.value → HoldsRoom answer.old.value → ⊥ }
+    ensures code { IsFirstUnmet
+        ((CLOSED, (session.old.held ≡ true) × (answer.old.held ≡ true)) ∷ (OTHER_KIND, HoldsSession session.old.value × HoldsRoom answer.old.value) ∷ [])
+        call_codes result }
 {
     let _lent: Lent<'_> = (None, None);
     let command = Command::Read(digest.get());
@@ -91,14 +93,14 @@ pub extern "C" fn nw_session_collect(
     ensures called { result ≡ pos 0 → IsCalled accepts (Call.Collect round)
         session.old.value session.new.value answer.new.value }
     ensures refused { (why : Refusal) → result ≡ refusal_code why
-        → IsRefusedTo accepts session.old.value None why }
-    ensures unchanged { (result ≡ pos 0 → ⊥) → IsUnchanged session.old session.new }
+        → IsRefusedTo accepts session.old.value session.new.value None why }
+    ensures unchanged { IsOneOf early_codes result → IsUnchanged session.old session.new }
     ensures answer { (result ≡ pos 0 → ⊥) → IsUnchanged answer.old answer.new }
     ensures stays { session.new.held ≡ session.old.held }
     ensures answer_stays { answer.new.held ≡ answer.old.held }
-    ensures closed { result ≡ CLOSED → session.old.held ≡ true → answer.old.held ≡ true → ⊥ }
-    ensures other_kind { result ≡ OTHER_KIND → HoldsSession session.old.value → HoldsRoom answer.old.value → ⊥ }
-    ensures bad_round { result ≡ BAD_ROUND → 2 ^ 48 ≤ round }
+    ensures code { IsFirstUnmet
+        ((CLOSED, (session.old.held ≡ true) × (answer.old.held ≡ true)) ∷ (OTHER_KIND, HoldsSession session.old.value × HoldsRoom answer.old.value) ∷ (BAD_ROUND, round < 2 ^ 48) ∷ [])
+        call_codes result }
 {
     let Some(round) = Round::new(round) else {
         return code_of_bad_round(session, answer);
@@ -110,11 +112,11 @@ pub extern "C" fn nw_session_collect(
 
 /// The code of a call with a round that is not below 2^48: `BAD_ROUND`, unless a handle is closed or of another kind.
 fn code_of_bad_round(session: &mut Handle, answer: &mut Handle) -> i32
-    ensures code { (result ≡ CLOSED) ⊎ (result ≡ OTHER_KIND) ⊎ (result ≡ BAD_ROUND) }
     ensures same { IsUnchanged session.old session.new }
     ensures answer { IsUnchanged answer.old answer.new }
-    ensures closed { result ≡ CLOSED → session.old.held ≡ true → answer.old.held ≡ true → ⊥ }
-    ensures other_kind { result ≡ OTHER_KIND → HoldsSession session.old.value → HoldsRoom answer.old.value → ⊥ }
+    ensures code { IsFirstUnmet
+        ((CLOSED, (session.old.held ≡ true) × (answer.old.held ≡ true)) ∷ (OTHER_KIND, HoldsSession session.old.value × HoldsRoom answer.old.value) ∷ [])
+        (BAD_ROUND ∷ []) result }
 {
     let code = code_of_room(session, answer);
     if code != DONE {
@@ -138,13 +140,14 @@ pub extern "C" fn nw_session_missing(
     ensures called { result ≡ pos 0 → IsCalled accepts (Call.Missing most)
         session.old.value session.new.value answer.new.value }
     ensures refused { (why : Refusal) → result ≡ refusal_code why
-        → IsRefusedTo accepts session.old.value None why }
-    ensures unchanged { (result ≡ pos 0 → ⊥) → IsUnchanged session.old session.new }
+        → IsRefusedTo accepts session.old.value session.new.value None why }
+    ensures unchanged { IsOneOf early_codes result → IsUnchanged session.old session.new }
     ensures answer { (result ≡ pos 0 → ⊥) → IsUnchanged answer.old answer.new }
     ensures stays { session.new.held ≡ session.old.held }
     ensures answer_stays { answer.new.held ≡ answer.old.held }
-    ensures closed { result ≡ CLOSED → session.old.held ≡ true → answer.old.held ≡ true → ⊥ }
-    ensures other_kind { result ≡ OTHER_KIND → HoldsSession session.old.value → HoldsRoom answer.old.value → ⊥ }
+    ensures code { IsFirstUnmet
+        ((CLOSED, (session.old.held ≡ true) × (answer.old.held ≡ true)) ∷ (OTHER_KIND, HoldsSession session.old.value × HoldsRoom answer.old.value) ∷ [])
+        call_codes result }
 {
     let _lent: Lent<'_> = (None, None);
     let command = Command::Missing(most);
@@ -163,13 +166,14 @@ pub extern "C" fn nw_session_missing_of(
     ensures called { result ≡ pos 0 → IsCalled accepts (Call.MissingOf (digest_in digest.now))
         session.old.value session.new.value answer.new.value }
     ensures refused { (why : Refusal) → result ≡ refusal_code why
-        → IsRefusedTo accepts session.old.value None why }
-    ensures unchanged { (result ≡ pos 0 → ⊥) → IsUnchanged session.old session.new }
+        → IsRefusedTo accepts session.old.value session.new.value None why }
+    ensures unchanged { IsOneOf early_codes result → IsUnchanged session.old session.new }
     ensures answer { (result ≡ pos 0 → ⊥) → IsUnchanged answer.old answer.new }
     ensures stays { session.new.held ≡ session.old.held }
     ensures answer_stays { answer.new.held ≡ answer.old.held }
-    ensures closed { result ≡ CLOSED → session.old.held ≡ true → answer.old.held ≡ true → ⊥ }
-    ensures other_kind { result ≡ OTHER_KIND → HoldsSession session.old.value → HoldsRoom answer.old.value → ⊥ }
+    ensures code { IsFirstUnmet
+        ((CLOSED, (session.old.held ≡ true) × (answer.old.held ≡ true)) ∷ (OTHER_KIND, HoldsSession session.old.value × HoldsRoom answer.old.value) ∷ [])
+        call_codes result }
 {
     let _lent: Lent<'_> = (None, None);
     let command = Command::MissingOf(digest.get());
@@ -186,13 +190,14 @@ pub extern "C" fn nw_session_status(
     ensures called { result ≡ pos 0 → IsCalled accepts Call.Status
         session.old.value session.new.value answer.new.value }
     ensures refused { (why : Refusal) → result ≡ refusal_code why
-        → IsRefusedTo accepts session.old.value None why }
-    ensures unchanged { (result ≡ pos 0 → ⊥) → IsUnchanged session.old session.new }
+        → IsRefusedTo accepts session.old.value session.new.value None why }
+    ensures unchanged { IsOneOf early_codes result → IsUnchanged session.old session.new }
     ensures answer { (result ≡ pos 0 → ⊥) → IsUnchanged answer.old answer.new }
     ensures stays { session.new.held ≡ session.old.held }
     ensures answer_stays { answer.new.held ≡ answer.old.held }
-    ensures closed { result ≡ CLOSED → session.old.held ≡ true → answer.old.held ≡ true → ⊥ }
-    ensures other_kind { result ≡ OTHER_KIND → HoldsSession session.old.value → HoldsRoom answer.old.value → ⊥ }
+    ensures code { IsFirstUnmet
+        ((CLOSED, (session.old.held ≡ true) × (answer.old.held ≡ true)) ∷ (OTHER_KIND, HoldsSession session.old.value × HoldsRoom answer.old.value) ∷ [])
+        call_codes result }
 {
     let _lent: Lent<'_> = (None, None);
     call(alloc, session, answer, &Command::Status)
@@ -211,13 +216,14 @@ pub extern "C" fn nw_session_open(
     ensures called { result ≡ pos 0 → IsCausalRead accepts (digest_in digest.now)
         session.old.value session.new.value answer.new.value }
     ensures refused { (why : Refusal) → result ≡ refusal_code why
-        → IsRefusedTo accepts session.old.value None why }
-    ensures unchanged { (result ≡ pos 0 → ⊥) → IsUnchanged session.old session.new }
+        → IsRefusedTo accepts session.old.value session.new.value None why }
+    ensures unchanged { IsOneOf early_codes result → IsUnchanged session.old session.new }
     ensures answer { (result ≡ pos 0 → ⊥) → IsUnchanged answer.old answer.new }
     ensures stays { session.new.held ≡ session.old.held }
     ensures answer_stays { answer.new.held ≡ answer.old.held }
-    ensures closed { result ≡ CLOSED → session.old.held ≡ true → answer.old.held ≡ true → ⊥ }
-    ensures other_kind { result ≡ OTHER_KIND → HoldsSession session.old.value → HoldsRoom answer.old.value → ⊥ }
+    ensures code { IsFirstUnmet
+        ((CLOSED, (session.old.held ≡ true) × (answer.old.held ≡ true)) ∷ (OTHER_KIND, HoldsSession session.old.value × HoldsRoom answer.old.value) ∷ [])
+        call_codes result }
 {
     let code = code_of_room(session, answer);
     if code != DONE {
@@ -235,16 +241,15 @@ pub extern "C" fn nw_session_open(
     }
 }
 
-/// Opens a causal read of the digest, as the session's next call. Returns the content of the answer. A refusal changes nothing.
+/// Opens a causal read of the digest, as the session's next call. Returns the content of the answer.
 fn read_causally(
     alloc: Global,
     session: &mut SharedSession<Ed25519>,
     digest: Digest,
 ) -> Result<Content, Refusal>
     ensures read { IfOk result (IsReadBy accepts digest session.old session.new) }
-    ensures refused { IfErr result
-        (IsRefused accepts (origin_of session.old.first) session.old.journal None) }
-    ensures unchanged { OnErr result (session.new ≡ session.old) }
+    ensures refused { IfErr result (IsRefusedBy accepts session.old session.new None) }
+    ensures same { IsSameSession session.old session.new }
 {
     match session.open_causal(alloc, digest) {
         Ok(Ok(ticket)) => Ok(Content::Ticket(ticket)),

@@ -1,12 +1,11 @@
 //! The run of a session: its number, ending it, and coming to the present one.
-ghost use Rattle.std.specs.Prelude.{◌≡◌, pos, true};
+ghost use Rattle.std.specs.Prelude.{◌≡◌, ◌∷◌, [], pos, true};
 ghost use Rattle.nw_ed25519.specs.Accepts.{accepts};
-ghost use Rattle.nw_shared_store.specs.Session.{IsPassing, IsUnseen};
-ghost use Rattle.nw_shared_store.specs.declared.error.Refusal.{Refusal};
 ghost use Rattle.nw_c.specs.Kinds.{HoldsRoom, HoldsSession, IsUnchanged};
 ghost use Rattle.nw_c.specs.Runs.{HasRun, IsOfPresentRun, IsRunEnded};
-ghost use Rattle.nw_c.specs.Stores.{refusal_code};
-ghost use Rattle.nw_c.specs.declared.codes.TheConstants.{CLOSED, OTHER_KIND};
+ghost use Rattle.nw_c.specs.Sessions.{KnowsEnd};
+ghost use Rattle.nw_c.specs.Codes.{IsFirstUnmet, look_codes};
+ghost use Rattle.nw_c.specs.declared.codes.TheConstants.{BUSY, CLOSED, DONE, ENDED, OTHER_KIND};
 
 use crate::codes::{CLOSED, DONE, OTHER_KIND};
 use crate::content::{Content, code_of_room};
@@ -19,8 +18,10 @@ use std::alloc::Global;
 pub extern "C" fn nw_session_run(session: &mut SessionHandle, out: &mut u64) -> i32
     ensures run { result ≡ pos 0 → HasRun session.old.value out.new }
     ensures same { IsUnchanged session.old session.new }
-    ensures closed { result ≡ CLOSED → session.old.held ≡ true → ⊥ }
-    ensures other_kind { result ≡ OTHER_KIND → HoldsSession session.old.value → ⊥ }
+    ensures unchanged { (result ≡ pos 0 → ⊥) → out.new ≡ out.old }
+    ensures code { IsFirstUnmet
+        ((CLOSED, session.old.held ≡ true) ∷ (OTHER_KIND, HoldsSession session.old.value) ∷ [])
+        (DONE ∷ []) result }
 {
     if !session.is_open() {
         return CLOSED;
@@ -49,13 +50,14 @@ pub extern "C" fn nw_session_restart(
 ) -> i32
     ensures restarted { result ≡ pos 0
         → IsRunEnded accepts session.old.value session.new.value answer.new.value }
-    ensures refused { (why : Refusal) → result ≡ refusal_code why → IsUnseen why }
-    ensures unchanged { (result ≡ pos 0 → ⊥) → IsUnchanged session.old session.new }
+    ensures unchanged { (result ≡ pos 0 → ⊥) → (result ≡ ENDED → ⊥) → IsUnchanged session.old session.new }
+    ensures ended { result ≡ ENDED → KnowsEnd session.old.value session.new.value }
     ensures answer { (result ≡ pos 0 → ⊥) → IsUnchanged answer.old answer.new }
     ensures stays { session.new.held ≡ session.old.held }
     ensures answer_stays { answer.new.held ≡ answer.old.held }
-    ensures closed { result ≡ CLOSED → session.old.held ≡ true → answer.old.held ≡ true → ⊥ }
-    ensures other_kind { result ≡ OTHER_KIND → HoldsSession session.old.value → HoldsRoom answer.old.value → ⊥ }
+    ensures code { IsFirstUnmet
+        ((CLOSED, (session.old.held ≡ true) × (answer.old.held ≡ true)) ∷ (OTHER_KIND, HoldsSession session.old.value × HoldsRoom answer.old.value) ∷ [])
+        look_codes result }
 {
     let code = code_of_room(session, answer);
     if code != DONE {
@@ -79,11 +81,11 @@ pub extern "C" fn nw_session_restart(
 #[unsafe(no_mangle)]
 pub extern "C" fn nw_session_renew(session: &mut SessionHandle) -> i32
     ensures renewed { result ≡ pos 0 → IsOfPresentRun accepts session.old.value session.new.value }
-    ensures refused { (why : Refusal) → result ≡ refusal_code why → IsPassing why }
     ensures unchanged { (result ≡ pos 0 → ⊥) → IsUnchanged session.old session.new }
     ensures stays { session.new.held ≡ session.old.held }
-    ensures closed { result ≡ CLOSED → session.old.held ≡ true → ⊥ }
-    ensures other_kind { result ≡ OTHER_KIND → HoldsSession session.old.value → ⊥ }
+    ensures code { IsFirstUnmet
+        ((CLOSED, session.old.held ≡ true) ∷ (OTHER_KIND, HoldsSession session.old.value) ∷ [])
+        (DONE ∷ BUSY ∷ []) result }
 {
     if !session.is_open() {
         return CLOSED;

@@ -1,10 +1,11 @@
 //! Looks at slots and at rounds.
-ghost use Rattle.std.specs.Prelude.{IfOk};
-ghost use Rattle.nw_model.specs.Look.{AreLooks, IsLook, TellsSatisfied};
+ghost use Rattle.std.specs.Prelude.{IfOk, IfSome, IsSome};
+ghost use Rattle.std.specs.FinMap as map;
+ghost use Rattle.nw_model.specs.Look.{AreLooks, AreMissed, IsLook, TellsSatisfied};
 
 use super::Dag;
 use crate::completions::lacks_nothing;
-use nw_digest::{NoMemory, Round};
+use nw_digest::{Digest, NoMemory, Round};
 use nw_model::Look;
 use std::alloc::Global;
 
@@ -23,12 +24,26 @@ impl Dag {
                 (stands, complete)
             }
         };
+        let first = self.held.first(round, author);
         Look {
             floor: self.held.floor(),
-            first: self.held.first(round, author),
+            newest: self.held.newest(),
+            first,
+            missing: self.missed(first),
             certified,
             stands,
             complete,
+        }
+    }
+
+    /// How many parents the block of this first digest misses. 0 if there is none. Allocates nothing.
+    fn missed(&self, first: Option<Digest>) -> usize
+        requires { IfSome first (λ digest. IsSome (map.get self.now.state.blocks digest)) }
+        ensures { AreMissed self.now.state first result }
+    {
+        match first {
+            None => 0,
+            Some(digest) => self.waits.missing.unmet_count(digest),
         }
     }
 

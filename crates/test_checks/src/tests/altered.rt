@@ -76,16 +76,30 @@ fn each_byte_of_a_block_altered(rt: HostRuntime) -> Result<(), Fail> {
     Ok(())
 }
 
+/// Replaces each byte of a certificate of three votes. Returns what is found without a change, and the counts.
+fn of_certificate(alloc: Global, is_weighted: bool) -> Result<(Found, [usize; 3]), Fail> {
+    let four = four(alloc, is_weighted)?;
+    let text = certificate(alloc, four.get())?;
+    let fault = Found::BadCert(CertFault::Signature { signer: 2 });
+    Ok((
+        judge(alloc, &four, &text)?,
+        count(alloc, &four, &text, fault)?,
+    ))
+}
+
 #[test]
 fn each_byte_of_a_certificate_altered(rt: HostRuntime) -> Result<(), Fail> {
-    let four = committee(rt.alloc(), 4)?;
-    let text = certificate(rt.alloc(), four.get())?;
-    assert!(rt; judge(rt.alloc(), &four, &text)? == Found::Cert);
-    let fault = Found::BadCert(CertFault::Signature { signer: 2 });
-    assert_eq!(rt;
-        count(rt.alloc(), &four, &text, fault)?,
-        [241 * 255, 0, 255]
-    );
+    let (found, counts) = of_certificate(rt.alloc(), false)?;
+    assert!(rt; found == Found::Cert);
+    assert_eq!(rt; counts, [241 * 255, 0, 255]);
+    Ok(())
+}
+
+#[test]
+fn each_byte_of_a_certificate_altered_under_weights(rt: HostRuntime) -> Result<(), Fail> {
+    let (found, counts) = of_certificate(rt.alloc(), true)?;
+    assert!(rt; found == Found::Cert);
+    assert_eq!(rt; counts, [241 * 255, 0, 255]);
     Ok(())
 }
 

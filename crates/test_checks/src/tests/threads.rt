@@ -2,29 +2,36 @@
 use super::signed::{block, certificate, vote};
 use super::*;
 use nw_intake::{FreeGate, Gate, GateShut, IntakeFault, Point, check_all, pass_start};
+use samples::Naps;
 use std::sync::Wait;
 use std::sync::atomic::AtomicU64;
 use std::sync::atomic::Ordering::SeqCst;
-use std::thread::{Threads, yield_now};
+use std::thread::Threads;
+use std::time::Clock;
+
+/// How often a gate that will open naps at most: ten seconds.
+const PATIENT: u64 = 10_000;
 
 /// A gate that lets checks start when two of them have reached their start points. It counts how often it is asked.
 #[derive(Drop)]
-struct Meeting {
+struct Meeting<C: Clock> {
     reached: AtomicU64,
     asked: AtomicU64,
+    naps: Naps<C>,
 }
 
-impl Meeting {
-    /// A gate that no check has reached yet.
-    fn new() -> Meeting {
+impl<C: Clock> Meeting<C> {
+    /// A gate that no check has reached yet, with at most this many naps.
+    fn new(clock: C, naps: u64) -> Meeting<C> {
         Meeting {
             reached: AtomicU64::new(0),
             asked: AtomicU64::new(0),
+            naps: Naps::new(clock, naps),
         }
     }
 }
 
-impl Gate for Meeting {
+impl<C: Clock> Gate for Meeting<C> {
     ghost says = { λ _ _ _. Unit {0} };
 
     fn reach(&self, point: Point) {
@@ -37,7 +44,7 @@ impl Gate for Meeting {
         self.asked.fetch_add(1, SeqCst);
         let met = self.reached.load(SeqCst) >= 2;
         if !met {
-            yield_now();
+            self.naps.nap();
         }
         met
     }
@@ -45,7 +52,7 @@ impl Gate for Meeting {
 
 #[test]
 fn a_shut_gate_is_asked_a_million_times(rt: HostRuntime) {
-    let gate = Meeting::new();
+    let gate = Meeting::new(&rt, 0);
     let passed = pass_start(&gate, Point::WalkStart { node: 1, number: 2 });
     assert_eq!(rt;
         (passed, gate.asked.load(SeqCst)),
@@ -104,21 +111,21 @@ fn are_separate(
     Ok(answers.len() == usize::from(count))
 }
 
-/// Checks the first `count` texts with this many workers, under a committee of four. Returns whether the answers are those of separate
+/// Checks the first `count` texts with this many workers, under this committee of four. Returns whether the answers are those of separate
 /// checks, or the fault.
 fn checked_by<G: Gate + Sync, R: Threads + Wait + Sync>(
     rt: &R,
     alloc: Global,
+    four: &Shared<Committee>,
     count: u8,
     workers: usize,
     gate: &G,
 ) -> Result<Result<bool, IntakeFault>, Fail> {
-    let four = committee(alloc, 4)?;
     let mut texts = five_texts(alloc, four.get())?;
     texts.truncate(usize::from(count));
-    match check_all(rt, alloc, &four, texts, workers, gate) {
+    match check_all(rt, alloc, four, texts, workers, gate) {
         Ok(answers) => {
-            let are_separate = are_separate(alloc, &four, count, &answers);
+            let are_separate = are_separate(alloc, four, count, &answers);
             drop(answers);
             Ok(Ok(are_separate?))
         }
@@ -133,32 +140,80 @@ fn two_workers_wait_for_each_other(rt: HostRuntime) -> Result<(), Fail> {
         (0, Err(IntakeFault::BadWorkers)),
         (17, Err(IntakeFault::BadWorkers)),
     ];
-    for (workers, wanted) in cases {
-        let found = checked_by(&rt, rt.alloc(), 2, workers, &Meeting::new())?;
-        assert_eq!(rt; found, wanted, "{workers}");
+    for is_weighted in [false, true] {
+        let four = four(rt.alloc(), is_weighted)?;
+        for (workers, wanted) in cases {
+            let found = checked_by(
+                &rt,
+                rt.alloc(),
+                &four,
+                2,
+                workers,
+                &Meeting::new(&rt, PATIENT),
+            )?;
+            assert_eq!(rt; found, wanted, "{workers}");
+        }
     }
     Ok(())
 }
 
-/// A gate that lets the first check start when three others are done.
+/// A gate that lets the texts of one worker's share start when all other texts are done.
 #[derive(Drop)]
-struct HoldsTheFirst {
+struct HoldsOne<C: Clock> {
+    worker: u32,
+    workers: u32,
+    /// The number of texts of other shares.
+    others: u32,
+    /// How many of them are done.
     done: AtomicU64,
+    naps: Naps<C>,
 }
 
-impl Gate for HoldsTheFirst {
+impl<C: Clock> HoldsOne<C> {
+    /// A gate for this many texts.
+    fn new(clock: C, worker: u32, workers: u32, texts: u32) -> HoldsOne<C> {
+        let mut gate = HoldsOne {
+            worker,
+            workers,
+            others: 0,
+            done: AtomicU64::new(0),
+            naps: Naps::new(clock, PATIENT),
+        };
+        for place in 0..texts {
+            if !gate.holds(place) {
+                gate.others = gate.others.saturating_add(1);
+            }
+        }
+        gate
+    }
+
+    /// Whether the text at this place is of the share that it holds.
+    fn holds(&self, place: u32) -> bool {
+        place.checked_rem(self.workers) == Some(self.worker)
+    }
+}
+
+impl<C: Clock> Gate for HoldsOne<C> {
     ghost says = { λ _ _ _. Unit {0} };
 
     fn reach(&self, point: Point) {
-        if matches!(point, Point::CheckDone(_)) {
-            self.done.fetch_add(1, SeqCst);
+        match point {
+            Point::CheckDone(place) if !self.holds(place) => {
+                self.done.fetch_add(1, SeqCst);
+            }
+            _ => {}
         }
     }
 
     fn may_pass(&self, point: Point) -> bool {
-        let passed = point != Point::CheckStart(0) || self.done.load(SeqCst) >= 3;
+        let passed = match point {
+            Point::CheckStart(place) if self.holds(place) => {
+                self.done.load(SeqCst) >= u64::from(self.others)
+            }
+            _ => true,
+        };
         if !passed {
-            yield_now();
+            self.naps.nap();
         }
         passed
     }
@@ -168,24 +223,39 @@ impl Gate for HoldsTheFirst {
 fn answers_are_in_the_order_of_the_texts_whichever_finishes_first(
     rt: HostRuntime,
 ) -> Result<(), Fail> {
-    let gate = HoldsTheFirst {
-        done: AtomicU64::new(0),
-    };
-    assert_eq!(rt; checked_by(&rt, rt.alloc(), 4, 4, &gate)?, Ok(true));
+    let gate = HoldsOne::new(&rt, 0, 4, 4);
+    let four = four(rt.alloc(), false)?;
+    assert_eq!(rt; checked_by(&rt, rt.alloc(), &four, 4, 4, &gate)?, Ok(true));
+    Ok(())
+}
+
+// A thread that checks a text of another share before one of its own would wait for itself.
+#[test]
+fn each_worker_checks_the_texts_of_its_share_and_no_others(rt: HostRuntime) -> Result<(), Fail> {
+    let four = four(rt.alloc(), false)?;
+    for workers in 1..=5u32 {
+        for worker in 0..workers {
+            let gate = HoldsOne::new(&rt, worker, workers, 5);
+            let found = checked_by(&rt, rt.alloc(), &four, 5, workers as usize, &gate)?;
+            assert_eq!(rt; found, Ok(true), "{worker} of {workers}");
+        }
+    }
     Ok(())
 }
 
 #[test]
 fn one_worker_does_not_pass_a_gate_that_waits_for_two(rt: HostRuntime) -> Result<(), Fail> {
-    let refused = checked_by(&rt, rt.alloc(), 2, 1, &Meeting::new())?;
+    let four = four(rt.alloc(), false)?;
+    let refused = checked_by(&rt, rt.alloc(), &four, 2, 1, &Meeting::new(&rt, 0))?;
     assert_eq!(rt; refused, Err(IntakeFault::GateShut));
     Ok(())
 }
 
 #[test]
 fn any_number_of_workers_gives_the_same_answers(rt: HostRuntime) -> Result<(), Fail> {
+    let four = four(rt.alloc(), false)?;
     for workers in [1, 2, 3, 16] {
-        let found = checked_by(&rt, rt.alloc(), 5, workers, &FreeGate)?;
+        let found = checked_by(&rt, rt.alloc(), &four, 5, workers, &FreeGate)?;
         assert_eq!(rt; found, Ok(true), "{workers}");
     }
     Ok(())

@@ -35,9 +35,7 @@ fn checked<R: Threads + Wait + Sync, G: Gate + Sync>(
     if texts.len() > 3 {
         return Err(Fail::from("there are at most three texts"));
     }
-    let checked = check_all(rt, alloc, four, texts, workers, gate);
-    allow_allocations(alloc);
-    Ok(checked)
+    Ok(check_all(rt, alloc, four, texts, workers, gate))
 }
 
 /// Whether the results have these words, in order.
@@ -71,8 +69,8 @@ fn are_found<R: Threads + Wait + Sync, G: Gate + Sync>(
     Ok(are_found)
 }
 
-/// A gate that makes all allocations fail from the end of the second check to the start of the third. A third check that started before the
-/// gate lets it would run out of memory.
+/// A gate that makes all allocations of the worker fail from the end of the second check to the start of the third. A third check that
+/// started before the gate lets it would run out of memory.
 #[derive(Drop)]
 struct Starving {
     alloc: Global,

@@ -1,6 +1,5 @@
 //! Examples of calls on a `Dag`.
 use super::tables::wanted;
-use super::views::walks;
 use super::*;
 use nw_codec::{Certificate, Ref, block_digest};
 use nw_dag::{Dag, DagLimits};
@@ -17,13 +16,17 @@ pub(super) const ROOM: DagLimits = DagLimits {
 
 /// A block, and the digest under which it is written.
 #[derive(Drop)]
-struct Own {
-    digest: Digest,
-    block: Shared<Block>,
+pub(super) struct Own {
+    pub(super) digest: Digest,
+    pub(super) block: Shared<Block>,
 }
 
 /// The block of the slot with these parents and without transactions, and the digest of its body. `NoMemory` also if it does not fit.
-fn own_block(alloc: Global, slot: (Round, u16), parents: &[Ref]) -> Result<Own, NoMemory> {
+pub(super) fn own_block(
+    alloc: Global,
+    slot: (Round, u16),
+    parents: &[Ref],
+) -> Result<Own, NoMemory> {
     let block = unsigned(alloc, slot, parents, b"")?;
     if !block.fits() {
         return Err(NoMemory);
@@ -64,7 +67,7 @@ fn extend(
 }
 
 /// Writes and certifies the block. Returns whether both were stored.
-fn is_stored(dag: &mut Dag, alloc: Global, own: &Own) -> Result<bool, NoMemory> {
+pub(super) fn is_stored(dag: &mut Dag, alloc: Global, own: &Own) -> Result<bool, NoMemory> {
     let slot = (own.block.get().round, own.block.get().author);
     let certificate = retry!(NoMemory, certificate_of(alloc, own.digest, slot))?;
     let written = retry!(NoMemory, dag.write(own.digest, &own.block))?;
@@ -73,7 +76,7 @@ fn is_stored(dag: &mut Dag, alloc: Global, own: &Own) -> Result<bool, NoMemory> 
 }
 
 /// The number of parts of the view for the digest, or the reply if there is no view.
-fn parts_of(
+pub(super) fn parts_of(
     dag: &mut Dag,
     alloc: Global,
     digest: Digest,
@@ -92,7 +95,9 @@ fn is_missing(
     let looks = retry!(NoMemory, dag.look_round(alloc, round(1)))?;
     let look = Look {
         floor: Round::ZERO,
+        newest: round(1),
         first: Some(block),
+        missing: 1,
         certified: Some(block),
         stands: true,
         complete: false,
@@ -222,61 +227,4 @@ fn full_generations_are_joined_without_collected_blocks(rt: HostRuntime) {
         let seen = last_seen(rt.alloc(), length, floor);
         assert_eq!(rt; seen, Ok((parts, count)), "{length} {floor}");
     }
-}
-
-/// The blocks of a committee of four: three of round 0, and one over them.
-fn four_owns(alloc: Global) -> Result<Vec<Own>, NoMemory> {
-    let mut owns = Vec::with_capacity(alloc, 4)?;
-    let mut parents = Vec::with_capacity(alloc, 3)?;
-    for author in 0..3u16 {
-        let own = own_block(alloc, (Round::ZERO, author), &[])?;
-        let digest = own.digest;
-        parents.push(Ref { author, digest })?;
-        owns.push(own)?;
-    }
-    owns.push(own_block(alloc, (round(1), 0), &parents)?)?;
-    Ok(owns)
-}
-
-/// Whether the view for the digest has two parts and this floor, and a walk from the digest lists the blocks under these digests.
-fn walks_over_two(
-    dag: &mut Dag,
-    alloc: Global,
-    floor: u8,
-    digest: Digest,
-    digests: &[Digest],
-) -> Result<bool, NoMemory> {
-    let view = match retry!(NoMemory, dag.freeze_for(alloc, digest))? {
-        Ok(view) => view,
-        Err(_refusal) => return Ok(false),
-    };
-    let is_listed = walks(alloc, &view, digest, digests)?;
-    Ok(is_listed && (view.parts(), view.floor()) == (2, round(floor)))
-}
-
-/// Whether a walk from the last of the four blocks, in a view of two generations, lists all of them, and only itself after a collection.
-fn walks_over_both(dag: &mut Dag, alloc: Global) -> Result<bool, NoMemory> {
-    let owns = retry!(NoMemory, four_owns(alloc))?;
-    let [a0, a1, a2, b] = owns.as_slice() else {
-        return Ok(false);
-    };
-    for it in [a0, a1, a2] {
-        if !is_stored(dag, alloc, it)? {
-            return Ok(false);
-        }
-    }
-    let digests = [a0.digest, a1.digest, a2.digest, b.digest];
-    let all = parts_of(dag, alloc, a2.digest)? == Ok(1)
-        && is_stored(dag, alloc, b)?
-        && walks_over_two(dag, alloc, 0, b.digest, &digests)?;
-    let collected = retry!(NoMemory, dag.collect(round(1)))?;
-    let only = collected == CollectReply::Raised { dropped: 3 }
-        && walks_over_two(dag, alloc, 1, b.digest, &digests[3..])?;
-    Ok(all && only)
-}
-
-#[test]
-fn a_walk_over_two_generations_of_a_dag(rt: HostRuntime) {
-    let dag = &mut Dag::new(rt.alloc(), ROOM);
-    assert_eq!(rt; walks_over_both(dag, rt.alloc()), Ok(true));
 }

@@ -74,16 +74,28 @@ pub(super) fn put_certified(
     Ok(true)
 }
 
-/// Whether round 3 has exactly these authors, and all rounds up to it together have these digests.
+/// The digests of round 3, ascending: the first and the certified digest of each of its authors.
+fn digests_of_round(rounds: &Rounds<Global>, alloc: Global) -> Result<Vec<Digest>, NoMemory> {
+    let mut digests = Vec::with_capacity(alloc, 4)?;
+    for author in rounds.authors(alloc, round(3))? {
+        digests.extend(rounds.first(round(3), author))?;
+        digests.extend(rounds.certified(round(3), author))?;
+    }
+    digests.sort()?;
+    Ok(digests)
+}
+
+/// Whether round 3 has exactly these authors and digests, and all rounds up to it together have these digests.
 fn is_listed(
     rounds: &Rounds<Global>,
     alloc: Global,
     authors: &[u16],
     digests: &[Digest],
 ) -> Result<bool, NoMemory> {
-    let own = retry!(NoMemory, rounds.authors(alloc, round(3)))?;
+    let by = retry!(NoMemory, rounds.authors(alloc, round(3)))?;
+    let own = retry!(NoMemory, digests_of_round(rounds, alloc))?;
     let lower = retry!(NoMemory, rounds.digests_up_to(alloc, round(3)))?;
-    Ok(own.as_slice() == authors && lower.as_slice() == digests)
+    Ok(by.as_slice() == authors && [own.as_slice(), lower.as_slice()] == [digests; 2])
 }
 
 #[test]

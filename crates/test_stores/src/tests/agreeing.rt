@@ -12,8 +12,8 @@ use super::scripts::{Row, play_script};
 use super::tasks::Crew;
 use super::*;
 use nw_causal::agree;
-use nw_committee::Member;
 use nw_store::{Agreement, NoMemory, Opening, View};
+use samples::four;
 use std::marker::Brand;
 
 /// Session 0 writes three blocks of round 0 and one with them as parents, certifies all four, and opens a causal read of the last one.
@@ -29,21 +29,7 @@ const RUN: [Row; 9] = [
     Row(0, 3, Ask::Open, "Ready"),
 ];
 
-/// A committee of four members of weight 1, made with or without given weights.
-fn four(alloc: Global, is_weighted: bool) -> Result<Shared<Committee>, Fail> {
-    let equal = committee(alloc, 4)?;
-    if !is_weighted {
-        return Ok(equal);
-    }
-    let mut members = Vec::new(alloc);
-    for number in 0..4 {
-        let key = *equal.get().key(number).ok_or("there are four members")?;
-        members.push(Member { key, weight: 1 })?;
-    }
-    Ok(Shared::new(alloc, Committee::weighted(members)?)?)
-}
-
-/// The four blocks of `RUN`, with their certificates.
+/// The four blocks of `RUN`, each with a certificate of members 0, 1 and 2.
 fn links_of(alloc: Global, under: &Shared<Committee>) -> Result<Vec<Link>, Fail> {
     let mut links = Vec::new(alloc);
     let mut parents = Vec::new(alloc);

@@ -29,20 +29,21 @@ impl Both {
         }
     }
 
-    /// Makes the call on the `Dag`. Returns whether its reply is the expected one. For `Ready`, it compares a walk with the expected list.
+    /// Makes the call on the `Dag`. Returns whether it foretells the reply and then gives it, and it is the expected one. For `Ready`, it
+    /// compares a walk with the expected list.
     fn dag_replies(
         &mut self,
         alloc: Global,
         call: &Call,
         expected: &Reply,
     ) -> Result<bool, NoMemory> {
-        let answered = self.dag.reply(alloc, call)?;
-        self.dag.take(call, &answered)?;
+        let foretold = self.dag.reply(alloc, call)?;
+        let answered = asked(&mut self.dag, alloc, call)?;
         match (call, &answered, expected) {
             (Call::Causal(digest), Reply::Ready, Reply::List(blocks)) => {
                 self.lists(alloc, *digest, blocks.as_slice())
             }
-            _ => Ok(is_same(&answered, expected)),
+            _ => Ok(is_same(&foretold, expected) && is_same(&answered, expected)),
         }
     }
 
@@ -58,6 +59,16 @@ impl Both {
             Err(_refusal) => Ok(false),
         }
     }
+}
+
+/// The reply of the `Dag` to the call: for one that may change the state, by the call's own function.
+fn asked(dag: &mut Dag, alloc: Global, call: &Call) -> Result<Reply, NoMemory> {
+    Ok(match call {
+        Call::Write(digest, block) => Reply::Write(dag.write(*digest, block)?),
+        Call::Certify(certificate) => Reply::Certify(dag.certify(certificate)?),
+        Call::Collect(round) => Reply::Collect(dag.collect(*round)?),
+        _ => dag.reply(alloc, call)?,
+    })
 }
 
 /// Whether the replies are equal. For lists it is always `false`.

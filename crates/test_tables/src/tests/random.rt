@@ -2,8 +2,9 @@
 use super::both::Both;
 use super::words::{REPLIES, words};
 use super::*;
-use nw_model::Call;
-use nw_plain::Base;
+use nw_codec::Subject;
+use nw_model::{Call, CausalReply, CertifyReply, Look, Reply, WriteReply};
+use nw_plain::{Base, Plain};
 use rand_core::utils::NextWord;
 use rand_pcg::Pcg32;
 use std::collections::BTreeSet;
@@ -121,26 +122,130 @@ fn is_copied(alloc: Global, both: &mut Both) -> Result<bool, NoMemory> {
     Ok(expected.is_same(&copied))
 }
 
-/// Whether looks at the first rounds from the garbage round on say the same of both stores.
-fn look_the_same(alloc: Global, both: &Both) -> Result<bool, NoMemory> {
+/// What a vote or a certificate for this slot would name, if no block has its digest.
+fn unknown(round: Round, author: u16) -> Subject {
+    Subject {
+        digest: Digest([255; 32]),
+        round,
+        author,
+    }
+}
+
+/// The slot's first digest, by the plain store's reply to a question about a digest without a block. The round is in the window.
+fn first_digest(plain: &mut Plain, round: Round, author: u16) -> Result<Option<Digest>, NoMemory> {
+    match plain.call(&Call::AskWrite(unknown(round, author)))? {
+        Reply::Write(WriteReply::Equivocates(first)) => Ok(Some(first)),
+        _ => Ok(None),
+    }
+}
+
+/// The slot's certified digest, by the plain store's reply to such a question.
+fn certified_digest(
+    plain: &mut Plain,
+    round: Round,
+    author: u16,
+) -> Result<Option<Digest>, NoMemory> {
+    match plain.call(&Call::AskCertify(unknown(round, author)))? {
+        Reply::Certify(CertifyReply::Conflict(other)) => Ok(Some(other)),
+        _ => Ok(None),
+    }
+}
+
+/// The newest round of the window in which one of eight authors has a digest, or the garbage round.
+fn newest(plain: &mut Plain, floor: Round) -> Result<Round, NoMemory> {
+    let mut newest = floor;
+    for place in 0..8 * WINDOW {
+        let (round, author) = (
+            round(floor.get() + u64::from(place / 8))?,
+            (place % 8) as u16,
+        );
+        let first = first_digest(plain, round, author)?;
+        if first.is_some() || certified_digest(plain, round, author)?.is_some() {
+            newest = round;
+        }
+    }
+    Ok(newest)
+}
+
+/// How many parents the block misses, by the plain store's reply. 0 if there is no block.
+fn missing(plain: &mut Plain, first: Option<Digest>) -> Result<usize, NoMemory> {
+    let Some(digest) = first else {
+        return Ok(0);
+    };
+    match &plain.call(&Call::MissingOf(digest))? {
+        Reply::MissingOf(Some(missing)) => Ok(missing.as_slice().len()),
+        _ => Ok(0),
+    }
+}
+
+/// Whether the certified digest stands, and whether it is complete, by the plain store's reply to a causal read of it.
+fn stands(plain: &mut Plain, certified: Option<Digest>) -> Result<(bool, bool), NoMemory> {
+    let Some(digest) = certified else {
+        return Ok((false, false));
+    };
+    match plain.call(&Call::Causal(digest))? {
+        Reply::List(_) => Ok((true, true)),
+        Reply::Causal(CausalReply::Incomplete) => Ok((true, false)),
+        _ => Ok((false, false)),
+    }
+}
+
+/// The look at the slot that the plain store's replies tell. The round is in the window.
+fn expected_look(
+    plain: &mut Plain,
+    floor: Round,
+    newest: Round,
+    round: Round,
+    author: u16,
+) -> Result<Look, NoMemory> {
+    let first = first_digest(plain, round, author)?;
+    let certified = certified_digest(plain, round, author)?;
+    let missing = missing(plain, first)?;
+    let (stands, complete) = stands(plain, certified)?;
+    Ok(Look {
+        floor,
+        newest,
+        first,
+        missing,
+        certified,
+        stands,
+        complete,
+    })
+}
+
+/// Whether looks at all rounds of the window are the expected ones.
+fn looks_as_expected(alloc: Global, both: &mut Both) -> Result<bool, NoMemory> {
     let floor = both.dag.status().floor;
-    for number in 0..8 {
-        if !round_looks_the_same(alloc, both, round(floor.get() + number)?)? {
+    let newest = newest(&mut both.plain, floor)?;
+    for number in 0..u64::from(WINDOW) {
+        let round = round(floor.get() + number)?;
+        if !round_looks_as_expected(alloc, both, newest, round)? {
             return Ok(false);
         }
     }
     Ok(true)
 }
 
-/// Whether looks at the round, and at its slots of eight authors, say the same of both stores.
-fn round_looks_the_same(alloc: Global, both: &Both, round: Round) -> Result<bool, NoMemory> {
+/// Whether looks at the round, and at its slots of eight authors, are the expected ones.
+fn round_looks_as_expected(
+    alloc: Global,
+    both: &mut Both,
+    newest: Round,
+    round: Round,
+) -> Result<bool, NoMemory> {
+    let floor = both.dag.status().floor;
+    let mut expected = Vec::new(alloc);
     for author in 0..8 {
-        if both.dag.look(round, author) != both.plain.look(round, author)? {
+        let look = expected_look(&mut both.plain, floor, newest, round, author)?;
+        if both.dag.look(round, author) != look {
             return Ok(false);
+        }
+        if look.first.is_some() || look.certified.is_some() {
+            expected.push((author, look))?;
         }
     }
     let looks = both.dag.look_round(alloc, round)?;
-    Ok(looks.as_slice() == both.plain.look_round(round)?.as_slice())
+    Ok(looks.as_slice() == expected.as_slice())
 }
 
 /// Makes random calls. After every 512 calls it compacts the tables, and compares a copy of them and looks with the plain store. Returns
@@ -154,7 +259,7 @@ fn count_replies(alloc: Global, both: &mut Both, calls: u32) -> Result<Option<us
         }
         if number % 512 == 0 {
             both.dag.compact(alloc)?;
-            if !is_copied(alloc, both)? || !look_the_same(alloc, both)? {
+            if !is_copied(alloc, both)? || !looks_as_expected(alloc, both)? {
                 return Ok(None);
             }
         }

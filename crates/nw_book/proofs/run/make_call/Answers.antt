@@ -1,4 +1,4 @@
-use Rattle.std.proofs.Common.{refl}
+use Rattle.nw_book.proofs.Words.{refl}
 use Rattle.nw_book.specs.Command.{committee_of}
 use Rattle.nw_book.specs.Turn.{MayStep}
 use Rattle.nw_book.specs.declared.moves.Answer.TheVariants as answers

@@ -1,6 +1,4 @@
-use Rattle.std.proofs.Common.{◌≡◌, Some, length, refl}
-use Rattle.std.specs.Prelude.{slice_get}
-use Rattle.std.proofs.lemmas.Option.{slice_get_read}
+use Rattle.nw_book.proofs.Words.{◌≡◌, Some, length, refl, slice_get, slice_get_read}
 use Rattle.nw_book.specs.declared.moves.Answer.TheVariants as answers
 use Rattle.nw_book.proofs.run.make_walk.Goals as goal
 

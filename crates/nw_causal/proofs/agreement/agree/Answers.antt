@@ -1,10 +1,5 @@
-use Rattle.std.proofs.Common.{List, All, reverse, sym, subst}
-use Rattle.std.specs.Prelude.{Contains}
-use Rattle.std.proofs.lemmas.List.{take_all}
-use Rattle.std.proofs.lemmas.List.Elements.{All-contains, All-map, All-more}
-use Rattle.nw_digest.specs.declared.digest.Digest.{Digest}
-use Rattle.nw_codec.specs.declared.block.Block.{Block}
-use Rattle.nw_model.specs.View.{Frozen, HasBlock, IsAncestorIn}
+use Rattle.nw_causal.proofs.Words.{List, All, reverse, sym, subst, Contains, take_all, All-contains, Digest, Block, Frozen, HasBlock, IsAncestorIn}
+use Rattle.std.proofs.lemmas.List.Elements.{All-map, All-more}
 use Rattle.nw_causal.specs.declared.ancestor.Ancestor.{Ancestor}
 use Rattle.nw_causal.specs.Agreement.{MatchAt, CollideAt, IsRival}
 use Rattle.nw_causal.specs.Looked.{AreFound, blocks, digests}

@@ -1,4 +1,4 @@
-use Rattle.std.proofs.Common.{All, take}
+use Rattle.nw_causal.proofs.Words.{All, take}
 use Rattle.nw_causal.specs.Agreement.{MatchAt}
 use Rattle.nw_causal.specs.declared.ancestor.Ancestor.{Ancestor}
 use Rattle.nw_causal.proofs.agreement.agree.Given as goal

@@ -1,9 +1,5 @@
-use Rattle.std.proofs.Common.{◌≡◌, ◌+◌, ◌++◌, ◌∷◌, List, [], ap, sym, ◌∙◌, arith}
-use Rattle.std.specs.FinMap.{FinMap, get}
-use Rattle.nw_codec.specs.declared.block.Block.{Block}
-use Rattle.nw_digest.specs.Order.{digest_cmp}
+use Rattle.nw_causal.proofs.Words.{◌≡◌, ◌+◌, ◌++◌, ◌∷◌, List, [], ap, sym, ◌∙◌, arith, FinMap, get, Block, digest_cmp, Frozen}
 use Rattle.std.proofs.lemmas.List.{nil_from_length}
-use Rattle.nw_model.specs.View.{Frozen}
 use Rattle.nw_model.proofs.Ancestors.{none_left}
 use Rattle.nw_causal.specs.declared.ancestor.Ancestor.{Ancestor}
 use Rattle.nw_causal.proofs.Exploring.{explores_first, explores_on, explores_all}

@@ -1,4 +1,4 @@
-use Rattle.std.proofs.Common.{◌≡◌, []}
+use Rattle.nw_causal.proofs.Words.{◌≡◌, []}
 use Rattle.nw_generation.specs.Seen.{HasUpTo}
 use Rattle.nw_causal.proofs.Exploring.{Explores}
 use Rattle.nw_causal.proofs.walks.ancestors.Given as goal

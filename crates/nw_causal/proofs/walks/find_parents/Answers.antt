@@ -1,12 +1,5 @@
-use Rattle.std.proofs.Common.{◌≡◌, ◌+◌, Some, List, [], IfSome, get_or, take, ap, sym, ◌∙◌, subst, arith}
-use Rattle.std.specs.FinMap.{get}
-use Rattle.std.specs.List.{insert}
-use Rattle.std.proofs.lemmas.List.{take_all}
-use Rattle.nw_codec.specs.declared.block.Ref.{Ref}
-use Rattle.nw_codec.specs.declared.block.Block.{Block}
-use Rattle.nw_model.specs.Search.{IsNamed}
-use Rattle.nw_model.specs.View.{Frozen, HasParent}
-use Rattle.nw_model.proofs.Complete.{one_block}
+use Rattle.nw_causal.proofs.Words.{◌≡◌, ◌+◌, Some, List, [], get_or, take, ap, sym, ◌∙◌, subst, arith, get, insert, take_all, Ref, Block, IsNamed, Frozen, HasParent, one_block}
+use Rattle.std.proofs.Common.{IfSome}
 use Rattle.nw_model.proofs.Finding.{names_more}
 use Rattle.nw_causal.specs.declared.ancestor.Ancestor.{Ancestor}
 use Rattle.nw_causal.specs.Looked.{Gains}

@@ -1,5 +1,4 @@
-use Rattle.std.proofs.Common.{take}
-use Rattle.nw_model.specs.Search.{IsNamed}
+use Rattle.nw_causal.proofs.Words.{take, IsNamed}
 use Rattle.nw_causal.specs.Looked.{Gains, IsLevel}
 use Rattle.nw_causal.proofs.walks.find_parents.Given as goal
 

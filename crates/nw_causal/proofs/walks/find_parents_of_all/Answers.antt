@@ -1,9 +1,4 @@
-use Rattle.std.proofs.Common.{◌+◌, ◌≤◌, List, All, length, take, arith, inl, inr}
-use Rattle.std.proofs.lemmas.List.{take_all, length-map}
-use Rattle.nw_codec.specs.declared.block.Block.{Block}
-use Rattle.nw_digest.specs.declared.digest.Digest.{Digest}
-use Rattle.nw_model.specs.Search.{IsNamed, IsParentOfAny}
-use Rattle.nw_model.specs.View.{Frozen, HasParent}
+use Rattle.nw_causal.proofs.Words.{◌+◌, ◌≤◌, List, All, length, take, arith, inl, inr, take_all, length-map, Block, Digest, IsNamed, IsParentOfAny, Frozen, HasParent}
 use Rattle.nw_model.proofs.Finding.{parents_more, parents_nothing}
 use Rattle.nw_causal.specs.declared.ancestor.Ancestor.{Ancestor}
 use Rattle.nw_causal.specs.Looked.{digests}

@@ -1,5 +1,4 @@
-use Rattle.std.proofs.Common.{take}
-use Rattle.nw_model.specs.Search.{IsParentOfAny}
+use Rattle.nw_causal.proofs.Words.{take, IsParentOfAny}
 use Rattle.nw_causal.specs.Looked.{Gains, IsLevel, digests}
 use Rattle.nw_causal.proofs.walks.find_parents_of_all.Given as goal
 

@@ -1,5 +1,5 @@
+use Rattle.nw_causal.proofs.Words.{nat_cmp}
 use Rattle.std.proofs.Common.{rules}
-use Rattle.std.specs.Ordering.{nat_cmp}
 use Rattle.std.proofs.lemmas.Fn.{always_returns_same}
 use Rattle.nw_causal.specs.declared.ancestor.Ancestor.{Ancestor}
 use Rattle.nw_causal.proofs.walks.place_of.Goals as goal

@@ -1,4 +1,4 @@
-use Rattle.std.proofs.Common.{◌≡◌, ◌++◌}
+use Rattle.nw_causal.proofs.Words.{◌≡◌, ◌++◌}
 use Rattle.std.specs.Vec.Iter.{into_iter_items}
 use Rattle.nw_causal.specs.Looked.{blocks}
 use Rattle.nw_causal.proofs.walks.walk.Given as goal

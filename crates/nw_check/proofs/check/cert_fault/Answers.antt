@@ -1,7 +1,5 @@
-use Rattle.std.proofs.Common.{subst}
-use Rattle.std.specs.Prelude.{IsTrue, List, All}
-use Rattle.nw_committee.specs.declared.member.Member.{Member}
-use Rattle.nw_model.specs.Checks.{IsSealOf}
+use Rattle.nw_check.proofs.Words.{subst, IsTrue, Member, IsSealOf}
+use Rattle.std.specs.Prelude.{List, All}
 use Rattle.nw_check.specs.Seals.{IsFirstBad}
 use Rattle.nw_check.proofs.Broken.{good_votes-valid}
 use Rattle.nw_check.proofs.check.cert_fault.Goals as goal

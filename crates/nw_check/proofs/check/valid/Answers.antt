@@ -1,4 +1,4 @@
-use Rattle.std.proofs.Common.{◌≡◌, ◌∙◌, true, false, sym}
+use Rattle.nw_check.proofs.Words.{◌≡◌, ◌∙◌, true, false, sym}
 use Rattle.nw_model.specs.Step.{is_digest}
 use Rattle.nw_model.proofs.Sames.{same_digest_decides}
 use Rattle.nw_check.proofs.Broken.{none-valid}

@@ -1,6 +1,4 @@
-use Rattle.std.proofs.Common.{ℕ, [], ◌<◌, ◌≤◌, length, get_or, arith}
-use Rattle.std.proofs.lemmas.List.Elements.{All-more}
-use Rattle.nw_codec.specs.Fits.{signers}
+use Rattle.nw_check.proofs.Words.{ℕ, [], ◌<◌, ◌≤◌, length, get_or, arith, All-more, signers}
 use Rattle.nw_check.proofs.Places.{place_here, place_end}
 use Rattle.nw_check.proofs.Gathered.{signer_at, length-signers}
 use Rattle.nw_check.proofs.gather.place_of.Goals as goal

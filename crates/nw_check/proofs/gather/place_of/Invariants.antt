@@ -1,6 +1,4 @@
-use Rattle.std.proofs.Common.{◌<◌, take}
-use Rattle.std.specs.List.{All}
-use Rattle.nw_codec.specs.Fits.{signers}
+use Rattle.nw_check.proofs.Words.{◌<◌, take, All, signers}
 use Rattle.nw_check.proofs.gather.place_of.Given as goal
 
 -- the signers so far are lower than this one

@@ -1,6 +1,4 @@
-use Rattle.std.proofs.Common.{◌≡◌, false, refl, sym, subst}
-use Rattle.std.specs.Prelude.{IsTrue}
-use Rattle.nw_model.specs.Checks.{IsMember}
+use Rattle.nw_check.proofs.Words.{◌≡◌, false, refl, sym, subst, IsTrue, IsMember}
 use Rattle.nw_check.proofs.Numbers.{all_numbers-more, all_numbers-not, all_front}
 use Rattle.nw_check.proofs.members.are_members.Goals as goal
 

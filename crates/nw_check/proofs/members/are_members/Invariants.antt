@@ -1,6 +1,4 @@
-use Rattle.std.proofs.Common.{map, take}
-use Rattle.std.specs.List.{All}
-use Rattle.nw_model.specs.Checks.{IsMember}
+use Rattle.nw_check.proofs.Words.{map, take, All, IsMember}
 use Rattle.nw_check.proofs.members.are_members.Given as goal
 
 -- the numbers so far are members' numbers

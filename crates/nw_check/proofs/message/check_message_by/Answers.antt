@@ -1,4 +1,4 @@
-use Rattle.std.proofs.Common.{◌≡◌, refl}
+use Rattle.nw_check.proofs.Words.{◌≡◌, refl}
 use Rattle.nw_decode.specs.declared.error.DecodeError.TheVariants.{NoMemory}
 use Rattle.nw_check.proofs.message.check_message_by.Goals as goal
 

@@ -1,5 +1,4 @@
-use Rattle.std.proofs.Common.{rules, nat_lt}
-use Rattle.std.proofs.lemmas.List.Sorted.{answers_always}
+use Rattle.nw_codec.proofs.Words.{rules, nat_lt, answers_always}
 use Rattle.nw_codec.specs.declared.block.Ref.{Ref}
 use Rattle.nw_codec.proofs.Rising.{rising_answer}
 use Rattle.nw_codec.proofs.block.is_ascending.Goals as goal

@@ -1,4 +1,4 @@
-use Rattle.std.proofs.Common.{[]}
+use Rattle.nw_codec.proofs.Words.{[]}
 use Rattle.nw_codec.proofs.encode.block_digest.Goals as goal
 
 pub returns : goal.returns

@@ -1,5 +1,4 @@
-use Rattle.std.proofs.Common.{rules, [], ◌∷◌}
-use Rattle.std.proofs.lemmas.Result.{on_ok_weaker}
+use Rattle.nw_codec.proofs.Words.{rules, [], ◌∷◌, on_ok_weaker}
 use Rattle.nw_codec.specs.Grammar.{message}
 use Rattle.nw_codec.proofs.encode.put_block.Goals as goal
 

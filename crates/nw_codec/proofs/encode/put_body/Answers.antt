@@ -1,6 +1,4 @@
-use Rattle.std.proofs.Common.{ℕ, List, length, refl, subst, ap, ◌∙◌, take, drop, rules}
-use Rattle.std.specs.Prelude.{All}
-use Rattle.std.proofs.lemmas.Result.{on_ok_weaker}
+use Rattle.nw_codec.proofs.Words.{ℕ, List, length, refl, subst, ap, ◌∙◌, take, drop, rules, All, on_ok_weaker}
 use Rattle.nw_codec.specs.Typed.{AreBytes, IsRef}
 use Rattle.nw_codec.proofs.BodyPieces.{pieces_of_body}
 use Rattle.nw_codec.proofs.Packed.{bytes_of_each}

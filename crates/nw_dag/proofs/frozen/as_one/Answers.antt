@@ -1,4 +1,4 @@
-use Rattle.std.proofs.Common.{ap, ◌∙◌}
+use Rattle.nw_dag.proofs.Words.{ap, ◌∙◌}
 use Rattle.nw_dag.proofs.Freezing.{over_nothing}
 use Rattle.nw_dag.proofs.frozen.as_one.Goals as goal
 

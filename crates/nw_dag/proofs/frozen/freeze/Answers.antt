@@ -1,7 +1,5 @@
-use Rattle.std.proofs.Common.{arith}
+use Rattle.nw_dag.proofs.Words.{arith, Contains, Digest}
 use Rattle.nw_dag.proofs.Freezing.{frozen_all, frozen_fewer, frozen_kept, frozen_none, frozen_over}
-use Rattle.std.specs.Prelude.{Contains}
-use Rattle.nw_digest.specs.declared.digest.Digest.{Digest}
 use Rattle.nw_dag.specs.Lacking.{IsReady}
 use Rattle.nw_dag.proofs.frozen.freeze.Goals as goal
 use Rattle.nw_dag.proofs.frozen.freeze.Goals.{then-parts-eq-MAX_GENERATIONS+in_ok-all+in_ok-push, else-parts-eq-MAX_GENERATIONS+in_ok-push-2}

@@ -1,16 +1,5 @@
-use Rattle.std.proofs.Common.{◌≡◌, ◌+◌, List, [], ◌∷◌, ◌++◌, Ok, Err, Result, get_or, take, ap, sym, ◌∙◌, subst, inl, inr}
-use Rattle.std.specs.Prelude.{Contains, IfOk}
-use Rattle.std.specs.FinMap.{FinMap, from_entries}
-use Rattle.std.specs.Map.{keys_of}
-use Rattle.std.specs.List.Sorted.{IsStrictlySortedBy}
-use Rattle.std.proofs.lemmas.List.{take_all, take_more}
-use Rattle.std.proofs.lemmas.List.Elements.{Contains-append_left, Contains-push}
-use Rattle.nw_codec.specs.declared.block.Block.{Block}
-use Rattle.nw_digest.specs.declared.digest.Digest.{Digest}
-use Rattle.nw_digest.specs.Order.{digest_cmp}
-use Rattle.nw_model.specs.State.{State}
-use Rattle.nw_digest.proofs.Maps.{digests_apart, digests_total, put_entries}
-use Rattle.nw_digest.proofs.Elements.{ordered_none}
+use Rattle.nw_dag.proofs.Words.{◌≡◌, ◌+◌, List, [], ◌∷◌, ◌++◌, Ok, Err, Result, get_or, take, ap, sym, ◌∙◌, subst, inl, inr, Contains, FinMap, from_entries, keys_of, IsStrictlySortedBy, take_all, take_more, Contains-append_left, Contains-push, Block, Digest, digest_cmp, State, digests_apart, digests_total, put_entries, ordered_none}
+use Rattle.std.specs.Prelude.{IfOk}
 use Rattle.nw_dag.specs.Frozen.{AreHeldUnder}
 use Rattle.nw_dag.proofs.Ascending.{before_place, goes_last}
 use Rattle.nw_dag.proofs.Freezing.{held_none, held_more, held_same}

@@ -1,9 +1,5 @@
-use Rattle.std.specs.Prelude.{Contains, take}
-use Rattle.std.specs.FinMap.{from_entries}
-use Rattle.std.specs.Map.{keys_of}
-use Rattle.std.specs.List.Sorted.{IsStrictlySortedBy}
-use Rattle.nw_digest.specs.declared.digest.Digest.{Digest}
-use Rattle.nw_digest.specs.Order.{digest_cmp}
+use Rattle.nw_dag.proofs.Words.{Contains, from_entries, keys_of, IsStrictlySortedBy, Digest, digest_cmp}
+use Rattle.std.specs.Prelude.{take}
 use Rattle.nw_dag.specs.Frozen.{AreHeldUnder}
 use Rattle.nw_dag.proofs.frozen.freeze_held.Given as goal
 

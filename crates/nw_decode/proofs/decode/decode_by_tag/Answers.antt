@@ -1,5 +1,4 @@
-use Rattle.std.proofs.Common.{ℕ, List, [], ◌∷◌, get_or, inl, refl, sym, subst, arith}
-use Rattle.std.proofs.lemmas.Result.{MatchResult-weaker}
+use Rattle.nw_decode.proofs.Words.{ℕ, List, [], ◌∷◌, get_or, inl, refl, sym, subst, arith, MatchResult-weaker}
 use Rattle.nw_decode.specs.declared.error.DecodeError.TheVariants.{Tag}
 use Rattle.nw_decode.specs.Faults.{OfVote, AtTag, AtDigest}
 use Rattle.nw_decode.specs.Parts.{Decodes}

@@ -1,4 +1,4 @@
-use Rattle.std.proofs.Common.{inl, inr}
+use Rattle.nw_decode.proofs.Words.{inl, inr}
 use Rattle.nw_decode.specs.Faults.{AtTag}
 use Rattle.nw_decode.proofs.Decided.{decided}
 use Rattle.nw_decode.proofs.Fronts.{not_both, one_fault}

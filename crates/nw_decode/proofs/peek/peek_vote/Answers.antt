@@ -1,5 +1,4 @@
-use Rattle.std.proofs.Common.{length, ap, arith}
-use Rattle.std.proofs.lemmas.List.{length-drop}
+use Rattle.nw_decode.proofs.Words.{length, ap, arith, length-drop}
 use Rattle.nw_decode.proofs.Peeked.{vote_begins}
 use Rattle.nw_decode.proofs.peek.peek_vote.Goals as goal
 

@@ -1,4 +1,4 @@
-use Rattle.std.proofs.Common.{◌≡◌, ◌+◌, ◌-◌, arith}
+use Rattle.nw_ed25519.proofs.Words.{◌≡◌, ◌+◌, ◌-◌, arith}
 use Rattle.nw_ed25519.proofs.Combs.{pushed_none, pushed_next, repeated_next}
 use Rattle.nw_ed25519.proofs.comb.+push_down.Goals as goal
 

@@ -1,4 +1,4 @@
-use Rattle.std.proofs.Common.{ℕ, ◌/◌, ◌%◌, ◌^◌, ap}
+use Rattle.nw_ed25519.proofs.Words.{ℕ, ◌/◌, ◌%◌, ◌^◌, ap}
 use Rattle.nw_ed25519.proofs.Combs.{low_chunk, high_chunk}
 use Rattle.nw_ed25519.proofs.comb.digit.Goals as goal
 use Rattle.nw_ed25519.proofs.comb.digit.Goals.{then-row-lt8, else-row-lt8}

@@ -1,4 +1,4 @@
-use Rattle.std.proofs.Common.{◌≡◌}
+use Rattle.nw_ed25519.proofs.Words.{◌≡◌}
 use Rattle.nw_ed25519.specs.Comb.{doubled_times}
 use Rattle.nw_ed25519.proofs.comb.doubled_times.Given as goal
 

@@ -1,4 +1,4 @@
-use Rattle.std.proofs.Common.{◌≡◌, ◌+◌, ◌*◌, ◌∙◌, ap, arith, ◌++◌}
+use Rattle.nw_ed25519.proofs.Words.{◌≡◌, ◌+◌, ◌*◌, ◌∙◌, ap, arith, ◌++◌}
 use Rattle.nw_curve.proofs.Inverses.{one-has_inverse}
 use Rattle.nw_ed25519.specs.Comb.{blocks, repeated}
 use Rattle.nw_ed25519.proofs.Combs.{no_blocks, next_block, repeated_none}

@@ -1,4 +1,4 @@
-use Rattle.std.proofs.Common.{◌≡◌, ◌+◌, ◌*◌, ◌++◌, vec_len}
+use Rattle.nw_ed25519.proofs.Words.{◌≡◌, ◌+◌, ◌*◌, ◌++◌, vec_len}
 use Rattle.nw_ed25519.specs.Comb.{AreProper, blocks, repeated}
 use Rattle.nw_ed25519.proofs.comb.push_row.Given as goal
 

@@ -1,6 +1,6 @@
-use Rattle.std.proofs.Common.{◌≡◌, ◌≢◌, ℕ, ◌%◌, ◌<◌, ◌^◌, sym, pow_pos, length, arith, get_or-set_other, le_refl}
+use Rattle.nw_ed25519.proofs.Words.{◌≡◌, ◌≢◌, ℕ, ◌%◌, ◌<◌, ◌^◌, sym, length, arith, get_or-set_other, le_refl, length-replicate}
+use Rattle.std.proofs.Common.{pow_pos}
 use Rattle.std.proofs.Math.ListN.{length-set}
-use Rattle.std.proofs.lemmas.List.{length-replicate}
 use Rattle.nw_ed25519.specs.Digits.{number_from_digits}
 use Rattle.nw_ed25519.proofs.DigitSums.{digit_split, nothing_left, zeros, each_digit}
 use Rattle.nw_ed25519.proofs.digits.digits_of.Goals as goal

@@ -1,4 +1,4 @@
-use Rattle.std.proofs.Common.{◌≡◌, ◌≢◌, ℕ, ◌+◌, ◌*◌, ◌%◌, ◌^◌, ◌-◌, ◌<◌, ◌≤◌, length, get_or}
+use Rattle.nw_ed25519.proofs.Words.{◌≡◌, ◌≢◌, ℕ, ◌+◌, ◌*◌, ◌%◌, ◌^◌, ◌-◌, ◌<◌, ◌≤◌, length, get_or}
 use Rattle.nw_ed25519.specs.Digits.{number_from_digits}
 use Rattle.nw_ed25519.proofs.digits.digits_of.Given as goal
 

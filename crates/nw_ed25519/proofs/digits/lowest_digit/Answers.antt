@@ -1,4 +1,4 @@
-use Rattle.std.proofs.Common.{◌%◌, ◌^◌, ◌∙◌, ap, ℕ}
+use Rattle.nw_ed25519.proofs.Words.{◌%◌, ◌^◌, ◌∙◌, ap, ℕ}
 use Rattle.nw_ed25519.proofs.DigitSums.{is_odd_from, is_even_from, lowest_bits_odd, odd_rest, even_rest}
 use Rattle.nw_ed25519.proofs.digits.lowest_digit.Goals as goal
 

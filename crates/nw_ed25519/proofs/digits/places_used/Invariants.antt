@@ -1,4 +1,4 @@
-use Rattle.std.proofs.Common.{◌≡◌, ℕ, ◌<◌, ◌≤◌, length, get_or}
+use Rattle.nw_ed25519.proofs.Words.{◌≡◌, ℕ, ◌<◌, ◌≤◌, length, get_or}
 use Rattle.nw_ed25519.proofs.digits.places_used.Given as goal
 
 abbrev pub invariant-loop-places : goal.invariant-loop-places

@@ -1,4 +1,4 @@
-use Rattle.std.proofs.Common.{◌+◌, ◌*◌, ◌/◌, ◌^◌, sym, ◌∙◌, arith}
+use Rattle.nw_ed25519.proofs.Words.{◌+◌, ◌*◌, ◌/◌, ◌^◌, sym, ◌∙◌, arith}
 use borrow.Author.Tests.{ltb-true, ltb-false}
 use Rattle.nw_ed25519.proofs.Remainders.{is_remainder, is_remainder_after_adding_back, order_large}
 use Rattle.nw_ed25519.proofs.order.append_word.Goals as goal

@@ -1,5 +1,4 @@
-use Rattle.std.proofs.Common.{ℕ, ◌+◌, ◌-◌, ◌*◌, ◌%◌, ◌^◌, drop, ◌∙◌, ap, arith}
-use Rattle.nw_curve.specs.Bytes.{number_from_bytes}
+use Rattle.nw_ed25519.proofs.Words.{ℕ, ◌+◌, ◌-◌, ◌*◌, ◌%◌, ◌^◌, drop, ◌∙◌, ap, arith, number_from_bytes}
 use Rattle.nw_ed25519.specs.Accepts.{order}
 use Rattle.nw_ed25519.proofs.Remainders.{first_remainder, next_remainder, remainder_below}
 use Rattle.nw_ed25519.proofs.order.modulo_order.Goals as goal

@@ -1,5 +1,4 @@
-use Rattle.std.proofs.Common.{◌≡◌, ◌-◌, ◌*◌, ◌%◌, drop}
-use Rattle.nw_curve.specs.Bytes.{number_from_bytes}
+use Rattle.nw_ed25519.proofs.Words.{◌≡◌, ◌-◌, ◌*◌, ◌%◌, drop, number_from_bytes}
 use Rattle.nw_ed25519.specs.Accepts.{order}
 use Rattle.nw_ed25519.proofs.order.modulo_order.Given as goal
 

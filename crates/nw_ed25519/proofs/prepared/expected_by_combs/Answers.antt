@@ -1,10 +1,5 @@
-use Rattle.std.proofs.Common.{◌≡◌, ◌*◌, ◌/◌, ◌^◌, subst, arith}
+use Rattle.nw_ed25519.proofs.Words.{◌≡◌, ◌*◌, ◌/◌, ◌^◌, subst, arith, base, negated, point_of, not_divided-has_inverse, negative_of, negative_valid, negated_represents, affine_base, base_valid, base_represents, coordinates, PointIfAny, decoded_point}
 use Rattle.nw_ed25519.specs.Comb.{rows}
-use Rattle.nw_curve.specs.Curve.{base, negated}
-use Rattle.nw_curve.specs.Completed.{point_of}
-use Rattle.nw_curve.proofs.Inverses.{not_divided-has_inverse}
-use Rattle.nw_curve.proofs.Negatives.{negative_of, negative_valid, negated_represents}
-use Rattle.nw_curve.proofs.Decoding.{affine_base, base_valid, base_represents, coordinates, PointIfAny, decoded_point}
 use Rattle.nw_ed25519.proofs.CombSums.{above, first_digits, next_digits, next_base_digits, none_above, all_windows}
 use Rattle.nw_ed25519.proofs.Expected.{expected_of_key}
 use Rattle.nw_ed25519.proofs.prepared.expected_by_combs.Goals as goal

@@ -1,7 +1,4 @@
-use Rattle.std.proofs.Common.{ℕ, ◌∙◌, ap}
-use Rattle.nw_curve.specs.Curve.{added}
-use Rattle.nw_curve.specs.Completed.{point_of, normalized}
-use Rattle.nw_curve.specs.declared.curve.point.Point.{Point}
+use Rattle.nw_ed25519.proofs.Words.{ℕ, ◌∙◌, ap, added, point_of, normalized, Point}
 use Rattle.nw_curve.proofs.BaseTable.{normalized_z}
 use Rattle.nw_ed25519.specs.Comb.{repeated, row_point, digit}
 use Rattle.nw_ed25519.proofs.Combs.{no_rows_added, next_row_added}

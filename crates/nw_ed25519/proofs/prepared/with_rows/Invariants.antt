@@ -1,6 +1,4 @@
-use Rattle.std.proofs.Common.{◌≡◌, ◌/◌, ◌^◌}
-use Rattle.nw_curve.specs.Completed.{point_of}
-use Rattle.nw_curve.specs.declared.curve.point.Point.{Point}
+use Rattle.nw_ed25519.proofs.Words.{◌≡◌, ◌/◌, ◌^◌, point_of, Point}
 use Rattle.nw_ed25519.specs.Comb.{rows, with_rows}
 use Rattle.nw_ed25519.proofs.prepared.with_rows.Given as goal
 

@@ -1,12 +1,4 @@
-use Rattle.std.proofs.Common.{◌≡◌, ℕ, ◌<◌, ◌-◌, ◌∙◌, ap, sym, subst, length, arith}
-use Rattle.nw_curve.specs.Completed.{point_of}
-use Rattle.nw_curve.specs.Coding.{encoded}
-use Rattle.nw_curve.specs.Curve.{base}
-use Rattle.nw_curve.specs.declared.curve.point.Point.{Point}
-use Rattle.nw_curve.proofs.Extended.{Represents}
-use Rattle.nw_curve.proofs.Negatives.{negative_of, negative_valid, negated_represents}
-use Rattle.nw_curve.proofs.Decoding.{affine_base, base_valid, base_represents, coordinates, PointIfAny, decoded_point}
-use Rattle.nw_curve.proofs.Tables.{combination}
+use Rattle.nw_ed25519.proofs.Words.{◌≡◌, ℕ, ◌<◌, ◌-◌, ◌∙◌, ap, sym, subst, length, arith, point_of, encoded, base, Point, Represents, negative_of, negative_valid, negated_represents, affine_base, base_valid, base_represents, coordinates, PointIfAny, decoded_point, combination}
 use Rattle.nw_ed25519.specs.Digits.{number_from_digits}
 use Rattle.nw_ed25519.proofs.DigitSums.{no_digits, next_digits}
 use Rattle.nw_ed25519.proofs.Expected.{expected_of_key}

@@ -1,10 +1,4 @@
-use Rattle.std.proofs.Common.{◌-◌, drop}
-use Rattle.nw_curve.specs.Completed.{point_of}
-use Rattle.nw_curve.proofs.AffineGroup.{Affine, IsOnCurve}
-use Rattle.nw_curve.proofs.Extended.{Represents}
-use Rattle.nw_curve.proofs.Negatives.{negative_of}
-use Rattle.nw_curve.proofs.Tables.{combination}
-use Rattle.nw_curve.proofs.Decoding.{affine_base}
+use Rattle.nw_ed25519.proofs.Words.{◌-◌, drop, point_of, Affine, IsOnCurve, Represents, negative_of, combination, affine_base}
 use Rattle.nw_ed25519.specs.Digits.{number_from_digits}
 use Rattle.nw_ed25519.proofs.sum.expected.Given as goal
 

@@ -1,9 +1,4 @@
-use Rattle.std.proofs.Common.{◌≡◌, ◌∷◌, List, sym, ap, ◌∙◌}
-use Rattle.std.specs.Ordering.{ordering_reverse}
-use Rattle.nw_digest.specs.declared.digest.Digest.{Digest}
-use Rattle.nw_codec.specs.declared.block.Block.{Block}
-use Rattle.nw_digest.specs.Order.{digest_cmp}
-use Rattle.nw_digest.proofs.Maps.{digests_total}
+use Rattle.nw_generation.proofs.Words.{◌≡◌, ◌∷◌, List, sym, ap, ◌∙◌, ordering_reverse, Digest, Block, digest_cmp, digests_total}
 use Rattle.nw_generation.proofs.Searches.{empty_below}
 use Rattle.nw_generation.proofs.Merging.{both_next, first_below, newer_next, older_next}
 use Rattle.nw_generation.proofs.entries.first_of_both.Goals.{in-Less, in-Equal, in-Greater}

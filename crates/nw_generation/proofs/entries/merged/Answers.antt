@@ -1,5 +1,4 @@
-use Rattle.nw_digest.specs.declared.digest.Digest.{Digest}
-use Rattle.nw_codec.specs.declared.block.Block.{Block}
+use Rattle.nw_generation.proofs.Words.{Digest, Block}
 use Rattle.nw_generation.proofs.Merging.{all_merged, none_merged, one_merged, rest_next}
 use Rattle.nw_generation.proofs.entries.merged.Goals as goal
 

@@ -1,4 +1,5 @@
-use Rattle.std.proofs.Common.{length, ◌+◌}
+use Rattle.nw_generation.proofs.Words.{length}
+use Rattle.std.proofs.Common.{◌+◌}
 use Rattle.nw_generation.proofs.Merging.{IsMerging}
 use Rattle.nw_generation.proofs.entries.merged.Given as goal
 

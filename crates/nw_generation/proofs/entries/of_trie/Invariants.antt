@@ -1,4 +1,4 @@
-use Rattle.std.proofs.Common.{◌≡◌, ◌++◌}
+use Rattle.nw_generation.proofs.Words.{◌≡◌, ◌++◌}
 use Rattle.nw_generation.proofs.entries.of_trie.Given as goal
 
 abbrev pub invariant-loop-digest : goal.invariant-loop-digest

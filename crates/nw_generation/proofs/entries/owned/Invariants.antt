@@ -1,7 +1,4 @@
-use Rattle.std.proofs.Common.{◌≡◌, take}
-use Rattle.std.specs.Prelude.{filter, nat_le}
-use Rattle.nw_digest.specs.declared.digest.Digest.{Digest}
-use Rattle.nw_codec.specs.declared.block.Block.{Block}
+use Rattle.nw_generation.proofs.Words.{◌≡◌, take, filter, nat_le, Digest, Block}
 use Rattle.nw_generation.proofs.entries.owned.Given as goal
 
 abbrev pub invariant-loop-lent : goal.invariant-loop-lent

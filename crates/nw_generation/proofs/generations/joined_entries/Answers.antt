@@ -1,4 +1,4 @@
-use Rattle.std.proofs.Common.{refl, ◌∙◌}
+use Rattle.nw_generation.proofs.Words.{refl, ◌∙◌}
 use Rattle.nw_generation.proofs.Merging.{joined_all, joined_more}
 use Rattle.nw_generation.proofs.Searches.{none_ascend}
 use Rattle.nw_generation.proofs.generations.joined_entries.Goals as goal

@@ -1,7 +1,4 @@
-use Rattle.std.proofs.Common.{◌≡◌, length}
-use Rattle.std.specs.FinMap.{get}
-use Rattle.std.specs.Option.{option_or}
-use Rattle.nw_digest.specs.declared.digest.Digest.{Digest}
+use Rattle.nw_generation.proofs.Words.{◌≡◌, length, get, option_or, Digest}
 use Rattle.nw_generation.specs.Entries.{Ascend, under}
 use Rattle.nw_generation.specs.Seen.{union}
 use Rattle.nw_generation.proofs.generations.joined_entries.Given as goal

@@ -1,4 +1,4 @@
-use Rattle.std.proofs.Common.{◌≡◌, take}
+use Rattle.nw_generation.proofs.Words.{◌≡◌, take}
 use Rattle.nw_generation.proofs.generations.shared.Given as goal
 
 abbrev pub invariant-loop-generation : goal.invariant-loop-generation

@@ -1,8 +1,4 @@
-use Rattle.std.proofs.Common.{◌≡◌, ◌++◌, ◌∷◌, ap, subst, sym, ◌∙◌}
-use Rattle.std.specs.Ordering.{ordering_reverse}
-use Rattle.nw_digest.specs.declared.digest.Digest.{Digest}
-use Rattle.nw_codec.specs.declared.block.Block.{Block}
-use Rattle.nw_digest.proofs.Maps.{digests_total}
+use Rattle.nw_generation.proofs.Words.{◌≡◌, ◌++◌, ◌∷◌, ap, subst, sym, ◌∙◌, ordering_reverse, Digest, Block, digests_total}
 use Rattle.nw_generation.specs.Entries.{Ascend, under}
 use Rattle.nw_generation.proofs.Searches.{found_after, found_at, found_before, heads_split}
 use Rattle.nw_generation.proofs.index.find.Goals.{in-Less, in-Greater}

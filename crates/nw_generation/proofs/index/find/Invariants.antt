@@ -1,4 +1,4 @@
-use Rattle.std.proofs.Common.{◌≡◌, length}
+use Rattle.nw_generation.proofs.Words.{◌≡◌, length}
 use Rattle.nw_generation.specs.Entries.{AreHeads, Ascend, under}
 use Rattle.nw_generation.proofs.index.find.Given as goal
 

@@ -1,4 +1,4 @@
-use Rattle.std.proofs.Common.{take}
+use Rattle.nw_generation.proofs.Words.{take}
 use Rattle.nw_generation.specs.Entries.{AreHeads}
 use Rattle.nw_generation.proofs.index.heads_of.Given as goal
 

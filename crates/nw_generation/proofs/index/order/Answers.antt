@@ -1,4 +1,4 @@
-use Rattle.std.proofs.Common.{◌∙◌, sym}
+use Rattle.nw_generation.proofs.Words.{◌∙◌, sym}
 use Rattle.nw_generation.proofs.Searches.{is_tie}
 use Rattle.nw_generation.proofs.index.order.Goals as goal
 

@@ -1,4 +1,4 @@
-use Rattle.std.proofs.Common.{refl}
+use Rattle.nw_generation.proofs.Words.{refl}
 use Rattle.nw_generation.proofs.Slotted.{among_more}
 use Rattle.nw_generation.proofs.slots.slots_of.Goals as goal
 

@@ -1,6 +1,4 @@
-use Rattle.std.proofs.Common.{All, take}
-use Rattle.nw_codec.specs.declared.block.Block.{Block}
-use Rattle.nw_digest.specs.declared.digest.Digest.{Digest}
+use Rattle.nw_generation.proofs.Words.{All, take, Block, Digest}
 use Rattle.nw_generation.specs.Seen.{IsWithin}
 use Rattle.nw_generation.proofs.span.rounds_of.Given as goal
 

@@ -1,6 +1,5 @@
-use Rattle.std.proofs.Common.{◌≡◌, ◌∙◌, rules, sym}
+use Rattle.nw_model.proofs.Words.{◌≡◌, ◌∙◌, rules, sym, same_block}
 use Rattle.nw_model.proofs.Sames.{same_block_decides}
-use Rattle.nw_codec.specs.Same.{same_block}
 use Rattle.nw_model.proofs.call.is_same_block.Goals as goal
 
 pub returns : goal.returns

@@ -1,4 +1,4 @@
-use Rattle.std.proofs.Common.{◌≡◌, ◌∙◌, rules, sym}
+use Rattle.nw_model.proofs.Words.{◌≡◌, ◌∙◌, rules, sym}
 use Rattle.nw_model.proofs.Sames.{same_certificate_decides, same_certificate}
 use Rattle.nw_model.proofs.call.is_same_certificate.Goals as goal
 

@@ -1,4 +1,4 @@
-use Rattle.std.proofs.Common.{◌≡◌, ◌∙◌, rules, sym}
+use Rattle.nw_model.proofs.Words.{◌≡◌, ◌∙◌, rules, sym}
 use Rattle.nw_model.specs.Step.{is_digest}
 use Rattle.nw_model.proofs.Sames.{same_digest_decides}
 use Rattle.nw_model.proofs.call.is_same_digest.Goals as goal

@@ -1,4 +1,4 @@
-use Rattle.std.proofs.Common.{◌≡◌, take}
+use Rattle.nw_model.proofs.Words.{◌≡◌, take}
 use Rattle.nw_model.proofs.reply.clone_all.Given as goal
 
 abbrev pub invariant-loop-block : goal.invariant-loop-block

@@ -1,13 +1,4 @@
-use Rattle.std.proofs.Common.{◌≡◌, Some, ap, sym, ◌∙◌, arith}
-use Rattle.std.proofs.lemmas.Option.{none-some}
-use Rattle.std.specs.Map.{lookup}
-use Rattle.std.specs.BTreeMap.{is_at}
-use Rattle.std.specs.FinMap.{get}
-use Rattle.nw_codec.specs.declared.block.Block.{Block}
-use Rattle.nw_digest.specs.Order.{slot_cmp}
-use Rattle.nw_model.specs.State.{block_slot}
-use Rattle.nw_digest.proofs.Maps.{get_lookup, put_entries, slots_total, slots_apart}
-use Rattle.nw_model.proofs.Finding.{there_is}
+use Rattle.nw_plain.proofs.Words.{◌≡◌, Some, ap, sym, ◌∙◌, arith, none-some, lookup, is_at, get, Block, slot_cmp, block_slot, get_lookup, put_entries, slots_total, slots_apart, there_is}
 use Rattle.nw_model.proofs.Ancestors.{explores_first, explores_above, explores_on, reaches_floor, reaches_early, none_left}
 use Rattle.nw_plain.proofs.walks.ancestors.Goals as goal
 use Rattle.nw_plain.proofs.walks.ancestors.Goals.{in-Some+in_ok-insert+in_ok-push+else-loop-test, in-Some+in_ok-insert+in_ok-push+then-loop-test+then-is_empty, in_default}

@@ -1,4 +1,4 @@
-use Rattle.std.specs.FinMap.{from_entries}
+use Rattle.nw_plain.proofs.Words.{from_entries}
 use Rattle.nw_model.proofs.Ancestors.{Explores}
 use Rattle.nw_plain.proofs.walks.ancestors.Given as goal
 

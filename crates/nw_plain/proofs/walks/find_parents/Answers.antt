@@ -1,17 +1,7 @@
-use Rattle.std.proofs.Common.{◌≡◌, true, false, Some, List, [], get_or, ap, sym, ◌∙◌}
-use Rattle.std.specs.Option.{is_some}
-use Rattle.std.specs.FinMap.{FinMap, get, from_entries}
-use Rattle.std.proofs.lemmas.List.{take_all}
+use Rattle.nw_plain.proofs.Words.{◌≡◌, true, false, Some, List, [], get_or, ap, sym, ◌∙◌, is_some, FinMap, get, from_entries, take_all, none-some, Digest, Ref, Block, slot_cmp, block_slot, get_lookup, slots_total, slots_apart, put_entries, finds_nothing, under_more, there_is}
 use Rattle.std.proofs.lemmas.List.Elements.{All-get_or, All-same}
-use Rattle.std.proofs.lemmas.Option.{none-some}
-use Rattle.nw_digest.specs.declared.digest.Digest.{Digest}
-use Rattle.nw_codec.specs.declared.block.Ref.{Ref}
-use Rattle.nw_codec.specs.declared.block.Block.{Block}
-use Rattle.nw_digest.specs.Order.{slot_cmp}
-use Rattle.nw_model.specs.State.{block_slot}
 use Rattle.nw_model.specs.View.{HasBlock}
-use Rattle.nw_digest.proofs.Maps.{get_lookup, slots_total, slots_apart, put_entries}
-use Rattle.nw_model.proofs.Finding.{finds_nothing, finds_again, finds_one, under_more, names_nothing, names_on, there_is}
+use Rattle.nw_model.proofs.Finding.{finds_again, finds_one, names_nothing, names_on}
 use Rattle.nw_plain.proofs.walks.find_parents.Goals as goal
 use Rattle.nw_plain.proofs.walks.find_parents.Goals.{in-Some+then-not-contains_key+in_ok-insert+in_ok-push, in-Some+else-not-contains_key, in_default}
 

@@ -1,6 +1,5 @@
-use Rattle.std.proofs.Common.{take}
-use Rattle.std.specs.FinMap.{from_entries}
-use Rattle.nw_model.specs.Search.{IsNamed, Finds}
+use Rattle.nw_plain.proofs.Words.{take, from_entries, Finds}
+use Rattle.nw_model.specs.Search.{IsNamed}
 use Rattle.nw_plain.proofs.walks.find_parents.Given as goal
 
 abbrev pub invariant-loop-reference : goal.invariant-loop-reference

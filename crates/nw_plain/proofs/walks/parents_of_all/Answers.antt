@@ -1,11 +1,5 @@
-use Rattle.std.proofs.Common.{◌≡◌, Some, [], get_or, ap, sym, ◌∙◌}
-use Rattle.std.specs.FinMap.{get}
-use Rattle.std.proofs.lemmas.List.{take_all}
-use Rattle.std.proofs.lemmas.Option.{none-some}
-use Rattle.nw_digest.specs.declared.digest.Digest.{Digest}
-use Rattle.nw_codec.specs.declared.block.Block.{Block}
-use Rattle.nw_model.specs.View.{Frozen}
-use Rattle.nw_model.proofs.Finding.{finds_nothing, under_more, parents_nothing, parents_on, parents_there, above_is}
+use Rattle.nw_plain.proofs.Words.{◌≡◌, Some, [], get_or, ap, sym, ◌∙◌, get, take_all, none-some, Digest, Block, Frozen, finds_nothing, under_more}
+use Rattle.nw_model.proofs.Finding.{parents_nothing, parents_on, parents_there, above_is}
 use Rattle.nw_plain.proofs.walks.parents_of_all.Goals as goal
 use Rattle.nw_plain.proofs.walks.parents_of_all.Goals.{in-Some+in_ok-find_parents, in_default}
 

@@ -1,6 +1,5 @@
-use Rattle.std.proofs.Common.{take, []}
-use Rattle.std.specs.FinMap.{from_entries}
-use Rattle.nw_model.specs.Search.{IsParentOfAny, Finds}
+use Rattle.nw_plain.proofs.Words.{take, [], from_entries, Finds}
+use Rattle.nw_model.specs.Search.{IsParentOfAny}
 use Rattle.nw_plain.proofs.walks.parents_of_all.Given as goal
 
 abbrev pub invariant-loop-digest : goal.invariant-loop-digest

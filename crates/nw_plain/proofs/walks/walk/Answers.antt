@@ -1,9 +1,5 @@
-use Rattle.std.proofs.Common.{Some, List, ap, sym, refl, ◌∙◌}
-use Rattle.std.specs.Map.{values_of}
-use Rattle.std.specs.Map.Iter.{deref}
+use Rattle.nw_plain.proofs.Words.{Some, List, ap, sym, refl, ◌∙◌, values_of, deref, Digest, none-some}
 use Rattle.std.proofs.lemmas.Map.Iter.{iter_turn, iter_end}
-use Rattle.nw_digest.specs.declared.digest.Digest.{Digest}
-use Rattle.std.proofs.lemmas.Option.{none-some}
 use Rattle.nw_model.proofs.Walked.{values_there, walk_on, turn_among, walked}
 use Rattle.nw_plain.proofs.walks.walk.Goals as goal
 

@@ -1,6 +1,5 @@
-use Rattle.std.proofs.Common.{◌≡◌, Some, map}
-use Rattle.std.specs.FinMap.{get}
-use Rattle.std.specs.Map.Iter.{deref}
+use Rattle.nw_plain.proofs.Words.{◌≡◌, Some, get, deref}
+use Rattle.std.proofs.Common.{map}
 use Rattle.nw_plain.proofs.walks.walk.Given as goal
 
 abbrev pub invariant-loop-digest : goal.invariant-loop-digest

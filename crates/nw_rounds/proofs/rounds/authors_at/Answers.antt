@@ -1,8 +1,4 @@
-use Rattle.std.proofs.Common.{◌∙◌, map, ap, sym}
-use Rattle.std.specs.List.{dedup}
-use Rattle.std.specs.Map.Iter.{deref_pair}
-use Rattle.std.proofs.lemmas.Map.Iter.{iter_end}
-use lib.Dec.{eqb}
+use Rattle.nw_rounds.proofs.Words.{◌∙◌, map, ap, sym, dedup, deref_pair, iter_end, eqb}
 use Rattle.nw_rounds.specs.Places.{tables_of, with_author}
 use Rattle.nw_rounds.proofs.Authors.{are_authors, authors_more, authors_of, authors_read, dedup_more}
 use Rattle.nw_rounds.proofs.rounds.authors_at.Goals as goal

@@ -1,6 +1,4 @@
-use Rattle.std.proofs.Common.{◌≡◌, map}
-use Rattle.std.specs.List.{dedup}
-use lib.Dec.{eqb}
+use Rattle.nw_rounds.proofs.Words.{◌≡◌, map, dedup, eqb}
 use Rattle.nw_rounds.proofs.rounds.authors_at.Given as goal
 
 -- the list has the authors read so far, each run of one author once

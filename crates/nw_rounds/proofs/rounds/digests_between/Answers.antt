@@ -1,7 +1,4 @@
-use Rattle.std.proofs.Common.{◌∙◌, [], ◌∷◌, ◌++◌, ap, sym}
-use Rattle.std.specs.Map.{values_of}
-use Rattle.std.specs.Map.Iter.{deref_pair}
-use Rattle.std.proofs.lemmas.Map.Iter.{iter_end}
+use Rattle.nw_rounds.proofs.Words.{◌∙◌, [], ◌∷◌, ◌++◌, ap, sym, values_of, deref_pair, iter_end}
 use Rattle.nw_rounds.specs.Places.{tables_of}
 use Rattle.nw_rounds.proofs.AtRound.{are_digests, values_read, values_more}
 use Rattle.nw_rounds.proofs.rounds.digests_between.Goals as goal

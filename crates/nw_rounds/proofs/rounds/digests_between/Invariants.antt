@@ -1,4 +1,4 @@
-use Rattle.std.proofs.Common.{◌≡◌, map}
+use Rattle.nw_rounds.proofs.Words.{◌≡◌, map}
 use Rattle.nw_rounds.proofs.rounds.digests_between.Given as goal
 
 -- the list has the digests read so far

@@ -1,5 +1,5 @@
-use Rattle.std.proofs.Common.{◌≡◌, rules, subst, sym}
-use Rattle.std.specs.Prelude.{Contains}
+use Rattle.nw_rounds.proofs.Words.{◌≡◌, subst, sym, Contains}
+use Rattle.std.proofs.Common.{rules}
 use Rattle.std.specs.BTreeMap.{values}
 use Rattle.nw_rounds.proofs.Sorted.{still_listed}
 use Rattle.nw_rounds.proofs.rounds.listed.Goals as goal

@@ -9,4 +9,7 @@ store-requires g c =
     let slots = lock.table_id.slots in
     let seat = c.args.seat.now in
     let t = c.requires.same in
-    may_end lock.key slots seat.id Reads _ seat.me c.requires.lock.same c.requires.lock.words t.1 (reads lock.key slots seat.id t.0 (freed seat.me.0))
+    may_end g.S.Scheme.accepts lock.key slots seat.id Reads _ seat.me c.requires.lock.same c.requires.lock.words t.1 (reads g.S.Scheme.accepts lock.key slots seat.id t.0 (freed seat.me.0) t.2)
+
+pub returns-clause-read : goal.returns-clause-read
+returns-clause-read g c = c.store.ensures.2.1

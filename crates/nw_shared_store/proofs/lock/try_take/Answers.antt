@@ -1,8 +1,4 @@
-use Rattle.std.proofs.Common.{◌≡◌, ℕ, List, ◌∷◌, subst, sym, ◌<◌, arith, ◌∙◌, ap}
-use Rattle.std.specs.Prelude.{◌==◌}
-use mathlib.Core.Option.{none}
-use prog.Atomic.{either}
-use Rattle.atomic_table.specs.Table.{Allows, step}
+use Rattle.nw_shared_store.proofs.Words.{◌≡◌, ℕ, List, ◌∷◌, subst, sym, ◌<◌, arith, ◌∙◌, ap, ◌==◌, none, either, Allows, step}
 use Rattle.nw_shared_store.specs.Locked.{Current}
 use Rattle.nw_shared_store.specs.Rule.{IsOneHistory, Acquires, holder_of}
 use Rattle.nw_shared_store.proofs.Steps.{acquires}
@@ -15,7 +11,7 @@ compare_exchange-requires g c =
     let me = c.args.seat.now.me in (
       c.requires.lock.same,
       subst (λ n. 0 < n) (sym c.requires.lock.words) (omega arith),
-      subst (λ (l : List (ℕ × Current)). Allows (IsOneHistory lock.key) slots c.args.seat.now.id (me.0, l) 0 (λ n. either (n == 0) 1 n) (Acquires (step slots 0 0 1 none) (me.0, l))) (sym c.requires.out) (acquires lock.key slots c.args.seat.now.id me.0),
+      subst (λ (l : List (ℕ × Current)). Allows (IsOneHistory g.S.Scheme.accepts lock.key) slots c.args.seat.now.id (me.0, l) 0 (λ n. either (n == 0) 1 n) (Acquires g.S.Scheme.accepts (step slots 0 0 1 none) (me.0, l))) (sym c.requires.out) (acquires g.S.Scheme.accepts lock.key slots c.args.seat.now.id me.0),
     )
 
 pub returns-clause-got : goal.returns-clause-got

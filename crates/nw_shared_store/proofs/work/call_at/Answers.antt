@@ -1,4 +1,4 @@
-use Rattle.nw_book.specs.Command.{call_of, committee_of}
+use Rattle.nw_shared_store.proofs.Words.{call_of, committee_of}
 use Rattle.nw_shared_store.specs.Locked.{IsTaken, IsUntaken}
 use Rattle.nw_shared_store.proofs.Slots.{slot_of, on_ok, on_err}
 use Rattle.nw_shared_store.proofs.work.call_at.Goals as goal

@@ -1,5 +1,4 @@
-use Rattle.std.proofs.Common.{ℕ}
-use Rattle.nw_history.specs.Story.{Story}
+use Rattle.nw_shared_store.proofs.Words.{ℕ, Story}
 use Rattle.nw_shared_store.specs.Locked.{IsFound}
 use Rattle.nw_shared_store.proofs.Slots.{slot_of, on_same}
 use Rattle.nw_shared_store.proofs.work.history_at.Goals as goal

@@ -1,5 +1,4 @@
-use Rattle.nw_history.specs.Story.{state_of}
-use Rattle.nw_model.specs.Look.{AreLooks}
+use Rattle.nw_shared_store.proofs.Words.{state_of, AreLooks}
 use Rattle.nw_shared_store.specs.Locked.{IsLocked}
 use Rattle.nw_shared_store.proofs.Slots.{slot_of, on_also}
 use Rattle.nw_shared_store.proofs.work.look_round_at.Goals as goal

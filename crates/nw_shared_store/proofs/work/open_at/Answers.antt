@@ -1,6 +1,5 @@
-use Rattle.std.proofs.Common.{None, Result}
+use Rattle.nw_shared_store.proofs.Words.{None, Result, AnswerView, front_of, reply_of}
 use Rattle.nw_model.specs.declared.call.Call.TheVariants as Call
-use Rattle.nw_book.specs.Answer.{AnswerView, front_of, reply_of}
 use Rattle.nw_book.specs.Ticket.{TicketView}
 use Rattle.nw_shared_store.specs.Locked.{IsTaken, IsUntaken}
 use Rattle.nw_shared_store.proofs.Slots.{slot_of, on_ok, on_err}

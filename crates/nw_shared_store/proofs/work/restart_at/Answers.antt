@@ -1,5 +1,4 @@
-use Rattle.std.proofs.Common.{ℕ}
-use Rattle.nw_history.specs.Story.{Story}
+use Rattle.nw_shared_store.proofs.Words.{ℕ, Story}
 use Rattle.nw_shared_store.specs.Locked.{IsEnded}
 use Rattle.nw_shared_store.proofs.Slots.{slot_of, on_ok}
 use Rattle.nw_shared_store.proofs.work.restart_at.Goals as goal

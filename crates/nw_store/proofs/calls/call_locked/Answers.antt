@@ -1,6 +1,5 @@
-use Rattle.nw_book.specs.Command.{committee_of}
+use Rattle.nw_store.proofs.Words.{committee_of, next_in_journal}
 use Rattle.nw_book.specs.Turn.{MayStep}
-use Rattle.nw_book.specs.Journal.{next_in_journal}
 use Rattle.nw_store.proofs.calls.call_locked.Goals as goal
 
 pub take_call-requires-clause-admitted : goal.take_call-requires-clause-admitted

@@ -1,7 +1,5 @@
-use Rattle.std.proofs.Common.{◌∙◌, sym, ap, subst}
-use Rattle.nw_book.specs.Journal.{Journal, next_in_journal}
+use Rattle.nw_store.proofs.Words.{◌∙◌, sym, ap, subst, Journal, next_in_journal, IsAnswered}
 use Rattle.nw_store.specs.Lock.{Guarded}
-use Rattle.nw_book.specs.Answered.{IsAnswered}
 use Rattle.nw_store.proofs.Kept.{starts_so}
 use Rattle.nw_store.proofs.Taken.{lock_after, session_after, answered_after}
 use Rattle.nw_store.proofs.calls.take_call.Goals as goal

@@ -1,9 +1,6 @@
-use Rattle.std.proofs.Common.{◌∙◌, sym, ap, subst}
+use Rattle.nw_store.proofs.Words.{◌∙◌, sym, ap, subst, front_of, reply_of, Journal, next_in_journal, IsAnswered}
 use Rattle.nw_model.specs.declared.call.Call.TheVariants as calls
-use Rattle.nw_book.specs.Answer.{front_of, reply_of}
-use Rattle.nw_book.specs.Journal.{Journal, next_in_journal}
 use Rattle.nw_store.specs.Lock.{Guarded}
-use Rattle.nw_book.specs.Answered.{IsAnswered}
 use Rattle.nw_store.proofs.Kept.{starts_so}
 use Rattle.nw_store.proofs.Taken.{lock_after, session_after, answered_after}
 use Rattle.nw_store.proofs.calls.take_open.Goals as goal

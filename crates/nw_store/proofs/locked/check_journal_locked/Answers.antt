@@ -1,6 +1,4 @@
-use Rattle.std.proofs.Common.{List, sym, subst}
-use Rattle.nw_history.specs.Story.{Story}
-use Rattle.nw_book.specs.Journal.{Journal, ArePrefixesOf}
+use Rattle.nw_store.proofs.Words.{List, sym, subst, Story, Journal, ArePrefixesOf}
 use Rattle.nw_store.specs.Lock.{Guarded, IsSession}
 use Rattle.nw_store.proofs.Begun.{begun_answers}
 use Rattle.nw_store.proofs.locked.check_journal_locked.Goals as goal

@@ -1,7 +1,5 @@
-use Rattle.std.proofs.Common.{subst}
-use Rattle.nw_book.specs.Journal.{ArePrefixesOf}
+use Rattle.nw_store.proofs.Words.{subst, ArePrefixesOf, comparable}
 use Rattle.nw_store.specs.Lock.{Guarded}
-use Rattle.nw_book.proofs.Prefixes.{comparable}
 use Rattle.nw_store.proofs.locked.check_journals_locked.Goals as goal
 
 pub returns-clause-comparable : goal.returns-clause-comparable

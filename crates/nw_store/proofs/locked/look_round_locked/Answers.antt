@@ -1,4 +1,4 @@
-use Rattle.std.proofs.Common.{Result, Ok, Err}
+use Rattle.nw_store.proofs.Words.{Result, Ok, Err}
 use Rattle.std.specs.Prelude.{IfOk}
 use Rattle.nw_store.proofs.locked.look_round_locked.Goals as goal
 

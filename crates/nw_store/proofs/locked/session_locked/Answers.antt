@@ -1,5 +1,4 @@
-use Rattle.std.proofs.Common.{◌<◌, ap, arith}
-use Rattle.nw_history.specs.Story.{Story}
+use Rattle.nw_store.proofs.Words.{◌<◌, ap, arith, Story}
 use Rattle.nw_store.proofs.Kept.{kept_made}
 use Rattle.nw_store.proofs.locked.session_locked.Goals as goal
 

@@ -1,6 +1,5 @@
-use Rattle.std.proofs.Common.{◌<◌, All}
-use Rattle.std.proofs.lemmas.List.Elements.{All-cons}
-use Rattle.nw_book.specs.Journal.{Journal, ArePrefixesOf}
+use Rattle.nw_store.proofs.Words.{◌<◌, All-cons, Journal, ArePrefixesOf}
+use Rattle.std.proofs.Common.{All}
 use Rattle.nw_store.specs.Lock.{AreAnswers}
 use Rattle.nw_store.proofs.settlement.+check_all_journals.Goals as goal
 

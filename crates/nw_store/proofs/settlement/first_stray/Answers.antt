@@ -1,4 +1,4 @@
-use Rattle.std.proofs.Common.{arith, subst}
+use Rattle.nw_store.proofs.Words.{arith, subst}
 use Rattle.nw_store.proofs.Ordered.{NoneBelow, apart_or, none_next, none_at_all}
 use Rattle.nw_store.proofs.settlement.first_stray.Goals as goal
 

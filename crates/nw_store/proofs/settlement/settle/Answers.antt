@@ -1,6 +1,4 @@
-use Rattle.std.proofs.Common.{List, ◌∙◌, sym, subst}
-use Rattle.std.specs.Prelude.{All}
-use Rattle.nw_book.specs.Journal.{Journal, ArePrefixesOf}
+use Rattle.nw_store.proofs.Words.{List, ◌∙◌, sym, subst, All, Journal, ArePrefixesOf}
 use Rattle.nw_store.specs.Lock.{Guarded, AreAnswers}
 use Rattle.nw_store.proofs.settlement.settle.Goals as goal
 

@@ -1,9 +1,5 @@
-use Rattle.std.proofs.Common.{◌≡◌, ◌∙◌, ℕ, List, length, true≢false, sym, ap, subst, arith, refl}
-use Rattle.std.specs.Prelude.{All}
-use Rattle.std.proofs.lemmas.List.Sorted.{All-permutation, sum_by-IsPermutation}
-use Rattle.std.specs.List.Sorted.{IsPermutation}
-use Rattle.nw_model.specs.History.{events_of, AreNumbered}
-use Rattle.nw_book.specs.Journal.{Journal, ArePrefixesOf}
+use Rattle.nw_store.proofs.Words.{◌≡◌, ◌∙◌, ℕ, List, length, true≢false, sym, ap, subst, arith, refl, All, sum_by-IsPermutation, IsPermutation, events_of, AreNumbered, Journal, ArePrefixesOf}
+use Rattle.std.proofs.lemmas.List.Sorted.{All-permutation}
 use Rattle.nw_store.specs.Lock.{Guarded, AreAnswers}
 use Rattle.nw_store.specs.Settled.{ids_of, AreAllSessions}
 use Rattle.nw_store.specs.Fault.{IsFirstStray, IsStray}

@@ -1,6 +1,4 @@
-use Rattle.std.proofs.Common.{◌≡◌, List, length, ap, arith}
-use Rattle.std.proofs.lemmas.List.Sorted.{length_permutation}
-use Rattle.nw_book.specs.Journal.{Journal}
+use Rattle.nw_store.proofs.Words.{◌≡◌, List, length, ap, arith, length_permutation, Journal}
 use Rattle.nw_store.proofs.Lent.{lent}
 use Rattle.nw_store.proofs.Interleaved.{settled_still}
 use Rattle.nw_store.proofs.Ordered.{all_still}

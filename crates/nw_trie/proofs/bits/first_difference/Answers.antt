@@ -1,4 +1,4 @@
-use Rattle.std.proofs.Common.{arith}
+use Rattle.nw_trie.proofs.Words.{arith}
 use Rattle.nw_trie.proofs.DigestBits.{same_digest}
 use Rattle.nw_trie.proofs.bits.first_difference.Goals as goal
 

@@ -1,4 +1,4 @@
-use Rattle.std.proofs.Common.{◌≡◌, ◌<◌, ℕ, get_or}
+use Rattle.nw_trie.proofs.Words.{◌≡◌, ◌<◌, ℕ, get_or}
 use Rattle.nw_trie.proofs.bits.first_difference.Given as goal
 
 abbrev pub invariant-loop-index : goal.invariant-loop-index

@@ -1,5 +1,4 @@
-use Rattle.std.proofs.Common.{◌≡◌, arith, inl, inr}
-use Rattle.std.proofs.lemmas.Bool.{cases_lt}
+use Rattle.nw_trie.proofs.Words.{◌≡◌, arith, inl, inr, cases_lt}
 use Rattle.nw_trie.proofs.ByteBits.{same_byte}
 use Rattle.nw_trie.proofs.bits.first_in_byte.Goals as goal
 

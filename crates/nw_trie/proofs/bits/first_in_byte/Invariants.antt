@@ -1,4 +1,4 @@
-use Rattle.std.proofs.Common.{◌≡◌, ◌<◌, ℕ}
+use Rattle.nw_trie.proofs.Words.{◌≡◌, ◌<◌, ℕ}
 use Rattle.nw_trie.specs.Bits.{byte_bit}
 use Rattle.nw_trie.proofs.bits.first_in_byte.Given as goal
 

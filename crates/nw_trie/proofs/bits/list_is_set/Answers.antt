@@ -1,4 +1,4 @@
-use Rattle.std.proofs.Common.{ℕ}
+use Rattle.nw_trie.proofs.Words.{ℕ}
 use Rattle.nw_digest.proofs.Bytes.{are_bytes}
 use Rattle.nw_trie.proofs.bits.list_is_set.Goals as goal
 

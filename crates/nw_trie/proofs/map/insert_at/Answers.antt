@@ -1,7 +1,4 @@
-use Rattle.std.proofs.Common.{◌∙◌, [], ap, arith, length, sym}
-use Rattle.std.specs.Map.{lookup}
-use Rattle.std.specs.BTreeMap.{insert_entry, is_at}
-use Rattle.nw_digest.specs.Order.{digest_cmp}
+use Rattle.nw_trie.proofs.Words.{◌∙◌, [], ap, arith, length, sym, lookup, insert_entry, is_at, digest_cmp}
 use Rattle.nw_trie.proofs.Places.{found_there, length_set, none_there, put_there}
 use Rattle.nw_trie.proofs.map.insert_at.Goals as goal
 

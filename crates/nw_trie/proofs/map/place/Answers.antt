@@ -1,4 +1,4 @@
-use Rattle.std.proofs.Common.{◌≡◌, ◌∙◌, ◌+◌, ◌-◌, ◌*◌, ◌/◌, ◌^◌, ap, arith}
+use Rattle.nw_trie.proofs.Words.{◌≡◌, ◌∙◌, ◌+◌, ◌-◌, ◌*◌, ◌/◌, ◌^◌, ap, arith}
 use Rattle.nw_digest.proofs.Bytes.{byte_below}
 use Rattle.nw_trie.proofs.Fronts.{first_bits, front}
 use Rattle.nw_trie.proofs.map.place.Goals as goal

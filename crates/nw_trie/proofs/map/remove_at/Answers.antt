@@ -1,7 +1,4 @@
-use Rattle.std.proofs.Common.{◌∙◌, [], ap, arith, get_or}
-use Rattle.std.specs.Map.{lookup, remove_entry}
-use Rattle.std.specs.BTreeMap.{is_at}
-use Rattle.nw_digest.specs.Order.{digest_cmp}
+use Rattle.nw_trie.proofs.Words.{◌∙◌, [], ap, arith, get_or, lookup, remove_entry, is_at, digest_cmp}
 use Rattle.nw_trie.proofs.Removals.{removed}
 use Rattle.nw_trie.proofs.Places.{found_there, length_set, none_removed, none_there, removed_there}
 use Rattle.nw_trie.proofs.map.remove_at.Goals as goal

@@ -1,5 +1,4 @@
-use Rattle.std.proofs.Common.{◌+◌, ap, subst, arith, length}
-use Rattle.std.specs.Vec.Iter.{into_iter_items}
+use Rattle.nw_trie.proofs.Words.{◌+◌, ap, subst, arith, length, into_iter_items}
 use Rattle.nw_trie.specs.Places.{AreAtPlaces, joined}
 use Rattle.nw_trie.proofs.Places.{Spread, alike, spread_more}
 use Rattle.nw_trie.proofs.map.spread_by.Goals as goal

@@ -1,6 +1,5 @@
-use Rattle.std.proofs.Common.{◌≡◌, ◌+◌, ◌*◌, ◌≤◌, ℕ, length}
+use Rattle.nw_trie.proofs.Words.{◌≡◌, ◌+◌, ◌*◌, ◌≤◌, ℕ, length, into_iter_items}
 use Rattle.std.specs.Vec.{vec_capacity, vec_len}
-use Rattle.std.specs.Vec.Iter.{into_iter_items}
 use Rattle.nw_trie.specs.Places.{AreAtPlaces, joined}
 use Rattle.nw_trie.proofs.Places.{Spread}
 use Rattle.nw_trie.proofs.map.spread_by.Given as goal

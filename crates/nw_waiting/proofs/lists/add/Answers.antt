@@ -1,6 +1,4 @@
-use Rattle.std.proofs.Common.{◌≡◌, ◌∙◌, ◌∷◌, ◌++◌, [], ap, arith}
-use Rattle.std.specs.BTreeMap.{get}
-use Rattle.std.proofs.lemmas.Grind.{common_steps}
+use Rattle.nw_waiting.proofs.Words.{◌≡◌, ◌∙◌, ◌∷◌, ◌++◌, [], ap, arith, get, common_steps}
 use Rattle.nw_waiting.specs.Lists.{list_of}
 use Rattle.nw_waiting.proofs.Members.{rewritten, written}
 use Rattle.nw_waiting.proofs.Relation.{on_err}

@@ -1,30 +1,35 @@
 //! Loads under gates that hold threads.
 use nw_intake::{Gate, GateShut, Point, pass_start};
 use nw_load::{LoadFault, NodeReport, load};
+use samples::Naps;
 use std::sync::atomic::AtomicBool;
 use std::sync::atomic::Ordering::SeqCst;
 use std::test::Fail;
-use std::thread::yield_now;
+use std::time::Clock;
 
-/// A gate that holds the second write until the first walk was reached, and the first walk until the second write was done. It yields
-/// before it refuses.
+/// How often a gate that will open naps at most: ten seconds.
+const PATIENT: u64 = 10_000;
+
+/// A gate that holds the second write until the first walk was reached, and the first walk until the second write was done.
 #[derive(Drop)]
-struct Interlocked {
+struct Interlocked<C: Clock> {
     walk_reached: AtomicBool,
     write_done: AtomicBool,
+    naps: Naps<C>,
 }
 
-impl Interlocked {
-    /// A gate before any point is reached.
-    fn new() -> Interlocked {
+impl<C: Clock> Interlocked<C> {
+    /// A gate before any point is reached, with at most this many naps.
+    fn new(clock: C, naps: u64) -> Interlocked<C> {
         Interlocked {
             walk_reached: AtomicBool::new(false),
             write_done: AtomicBool::new(false),
+            naps: Naps::new(clock, naps),
         }
     }
 }
 
-impl Gate for Interlocked {
+impl<C: Clock> Gate for Interlocked<C> {
     ghost says = { λ _ _ _. Unit {0} };
 
     fn reach(&self, point: Point) {
@@ -42,7 +47,7 @@ impl Gate for Interlocked {
             _ => true,
         };
         if !passed {
-            yield_now();
+            self.naps.nap();
         }
         passed
     }
@@ -50,7 +55,8 @@ impl Gate for Interlocked {
 
 #[test]
 fn a_walk_starts_before_a_write_and_ends_after_it(rt: HostRuntime) -> Result<(), Fail> {
-    let reports = load(&rt, rt.alloc(), 1, 2, &Interlocked::new());
+    let gate = Interlocked::new(&rt, PATIENT);
+    let reports = load(&rt, rt.alloc(), 1, 2, &gate);
     let wanted = vec![in rt.alloc(); NodeReport { events: 6, last: 2 }; 1]?;
     assert_eq!(rt; reports, Ok(wanted));
     Ok(())
@@ -59,12 +65,13 @@ fn a_walk_starts_before_a_write_and_ends_after_it(rt: HostRuntime) -> Result<(),
 // Fails only if the gate refuses a start. Then one thread waited for the other, as on one thread or under one lock.
 #[test]
 fn neither_thread_of_a_node_blocks_the_other(rt: HostRuntime) {
-    let reports = load(&rt, rt.alloc(), 1, 2, &Interlocked::new());
+    let gate = Interlocked::new(&rt, PATIENT);
+    let reports = load(&rt, rt.alloc(), 1, 2, &gate);
     assert!(rt; reports != Err(LoadFault::GateShut));
 }
 
 /// Passes the starts in order on one thread, and reaches the end of each before the next one.
-fn passed(gate: &Interlocked, starts: &[(Point, Point)]) -> Result<(), GateShut> {
+fn passed<C: Clock>(gate: &Interlocked<C>, starts: &[(Point, Point)]) -> Result<(), GateShut> {
     for (start, done) in starts {
         pass_start(gate, *start)?;
         gate.reach(*done);
@@ -91,7 +98,7 @@ fn on_one_thread_the_gate_is_shut(rt: HostRuntime) {
         ("each in turn", [write(1), walk(1), write(2), walk(2)]),
     ] {
         assert_eq!(rt;
-            passed(&Interlocked::new(), &starts),
+            passed(&Interlocked::new(&rt, 0), &starts),
             Err(GateShut),
             "{shows}"
         );

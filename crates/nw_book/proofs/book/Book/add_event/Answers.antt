@@ -1,8 +1,4 @@
-use Rattle.std.proofs.Common.{◌≡◌, ◌≤◌, ap, sym, ◌∙◌, subst, arith}
-use Rattle.std.specs.Option.{option_copied}
-use Rattle.nw_model.specs.Step.{IsReply}
-use Rattle.nw_model.specs.History.{IsAdmitted}
-use Rattle.nw_history.specs.Story.{Story, IsLegalStory, bounds_of, state_of}
+use Rattle.nw_book.proofs.Words.{◌≡◌, ◌≤◌, ap, sym, ◌∙◌, subst, arith, option_copied, IsReply, IsAdmitted, Story, IsLegalStory, bounds_of, state_of}
 use Rattle.nw_book.specs.Turn.{IsInTurn, HasRoom}
 use Rattle.nw_book.proofs.Longer.{is_last, some_last}
 use Rattle.nw_book.proofs.IsBook.{legal_next}

@@ -1,5 +1,4 @@
-use Rattle.std.proofs.Common.{arith, refl, ◌∙◌}
-use Rattle.nw_history.specs.Story.{IsLegalStory, with_event}
+use Rattle.nw_book.proofs.Words.{arith, refl, ◌∙◌, IsLegalStory, with_event}
 use Rattle.nw_book.specs.Turn.{IsInTurn}
 use Rattle.nw_book.proofs.IsBook.{count_fits, book_next}
 use Rattle.nw_book.proofs.book.Book.advance.Goals as goal

@@ -1,6 +1,5 @@
-use Rattle.std.proofs.Common.{subst}
+use Rattle.nw_book.proofs.Words.{subst, BoundedState}
 use Rattle.nw_model.specs.Look.{IsLook, TellsSatisfied}
-use Rattle.nw_model.specs.Step.{BoundedState}
 use Rattle.nw_book.proofs.book.Book.look.Goals as goal
 
 pub returns : goal.returns

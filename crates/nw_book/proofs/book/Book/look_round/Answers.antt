@@ -1,7 +1,5 @@
-use Rattle.std.proofs.Common.{subst}
-use Rattle.std.specs.Prelude.{IfOk}
+use Rattle.nw_book.proofs.Words.{subst, IfOk, BoundedState}
 use Rattle.nw_model.specs.Look.{AreLooks}
-use Rattle.nw_model.specs.Step.{BoundedState}
 use Rattle.nw_book.proofs.book.Book.look_round.Goals as goal
 
 pub returns : goal.returns

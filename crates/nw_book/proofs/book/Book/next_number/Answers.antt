@@ -1,8 +1,4 @@
-use Rattle.std.proofs.Common.{◌≡◌, ℕ, ◌<◌, ◌≤◌, length, get_or, arith, ap, List, ◌∙◌}
-use Rattle.std.proofs.lemmas.List.Sums.{length-filter, count_by-le-length}
-use Rattle.std.specs.Prelude.{◌==◌}
-use Rattle.nw_model.specs.History.{events_of}
-use Rattle.nw_model.specs.declared.event.Event.{Event}
+use Rattle.nw_book.proofs.Words.{◌≡◌, ℕ, ◌<◌, ◌≤◌, length, get_or, arith, ap, List, ◌∙◌, length-filter, count_by-le-length, ◌==◌, events_of, Event}
 use Rattle.nw_book.proofs.book.Book.next_number.Goals as goal
 
 pub overflow_add-result : goal.overflow_add-result

@@ -1,4 +1,4 @@
-use Rattle.std.proofs.Common.{◌≡◌, length, arith, refl}
+use Rattle.nw_book.proofs.Words.{◌≡◌, length, arith, refl}
 use Rattle.nw_book.proofs.Runs.{runs_more, stopped}
 use Rattle.nw_book.proofs.book.Book.run.Goals as goal
 

@@ -1,4 +1,4 @@
-use Rattle.std.proofs.Common.{[], take}
+use Rattle.nw_book.proofs.Words.{[], take}
 use Rattle.nw_book.specs.Run.{Runs}
 use Rattle.nw_book.proofs.book.Book.run.Given as goal
 

@@ -1,6 +1,4 @@
-use Rattle.std.proofs.Common.{◌∙◌, subst, sym}
-use Rattle.nw_model.specs.View.{Shows}
-use Rattle.nw_history.specs.Story.{IsLegalStory, state_of}
+use Rattle.nw_book.proofs.Words.{◌∙◌, subst, sym, Shows, IsLegalStory, state_of}
 use Rattle.nw_book.proofs.Opened.{opened}
 use Rattle.nw_book.proofs.book.Book.take_open.Goals as goal
 

@@ -1,9 +1,5 @@
-use Rattle.std.proofs.Common.{◌≡◌, [], ◌∷◌, ◌++◌, ap, sym, ◌∙◌, subst}
+use Rattle.nw_book.proofs.Words.{◌≡◌, [], ◌∷◌, ◌++◌, ap, sym, ◌∙◌, subst, IsReply, bounds_of, state_of, Event, Story}
 use Rattle.nw_model.proofs.RecordedCalls.{same_step}
-use Rattle.nw_model.specs.Step.{IsReply}
-use Rattle.nw_history.specs.Story.{bounds_of, state_of}
-use Rattle.nw_model.specs.declared.event.Event.{Event}
-use Rattle.nw_history.specs.Story.{Story}
 use Rattle.nw_book.proofs.NotReady.{not_ready}
 use Rattle.nw_book.proofs.book.Book.take_step.Goals as goal
 

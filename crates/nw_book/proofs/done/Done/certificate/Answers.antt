@@ -1,4 +1,5 @@
-use Rattle.std.proofs.Common.{Some, rules}
+use Rattle.nw_book.proofs.Words.{Some}
+use Rattle.std.proofs.Common.{rules}
 use Rattle.nw_model.specs.declared.reply.Reply.TheVariants as reply
 use Rattle.nw_book.proofs.Given.{gives}
 use Rattle.nw_book.proofs.done.Done.certificate.Goals as goal

@@ -1,5 +1,4 @@
-use Rattle.std.proofs.Common.{Some, ◌∙◌}
-use Rattle.nw_model.specs.Checks.{digest_of}
+use Rattle.nw_book.proofs.Words.{Some, ◌∙◌, digest_of}
 use Rattle.nw_model.specs.declared.reply.Reply.TheVariants as reply
 use Rattle.nw_model.proofs.Integrity.{reads_one}
 use Rattle.nw_book.proofs.Given.{gives}

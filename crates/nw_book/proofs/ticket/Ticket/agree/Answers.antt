@@ -1,4 +1,4 @@
-use Rattle.std.proofs.Common.{◌≡◌, ap, sym, ◌∙◌}
+use Rattle.nw_book.proofs.Words.{◌≡◌, ap, sym, ◌∙◌}
 use Rattle.nw_book.specs.Ticket.{TicketView}
 use Rattle.nw_book.proofs.Agreed.{other_there, tickets_agree}
 use Rattle.nw_book.proofs.Opened.{ticket_there}

@@ -1,4 +1,4 @@
-use Rattle.std.proofs.Common.{◌≡◌, ℕ, ap, sym, subst, ◌∙◌}
+use Rattle.std.proofs.Common.{◌≡◌, ℕ, ap, sym, subst, ◌∙◌, inr, rules}
 use Rattle.nw_ed25519.specs.Accepts.{accepts}
 use Rattle.nw_model.specs.declared.look.Look.{Look}
 use Rattle.nw_book.specs.Answered.{IsLookAfter}
@@ -22,3 +22,12 @@ pub returns-in-Ok-clause-look : goal.returns-in-Ok-clause-look
 returns-in-Ok-clause-look c = λ code.
     seen c.args.session.now.value c.in-Session.held c.look.new.self c.args.round c.in-Some.round c.args.author _ c.in-Ok.look
     (ap (λ h. h.value) (sym c.is_open.ensures.same) ∙ sym c.lend.ensures.value ∙ c.in-Session.is) c.in-Some.ensures.1 c.of.ensures c.in-Ok.ensures.same c.in-Ok.ensures.seen
+
+pub returns-in_default-new-clause-code : goal.returns-in_default-new-clause-code
+returns-in_default-new-clause-code c = inr (search rules, inr ((c.in-Session.held, ap (λ h. h.value) (sym c.is_open.ensures.same) ∙ sym c.lend.ensures.value ∙ c.in-Session.is), search rules))
+
+pub returns-in-Ok-clause-code : goal.returns-in-Ok-clause-code
+returns-in-Ok-clause-code c = inr (search rules, inr ((c.in-Session.held, ap (λ h. h.value) (sym c.is_open.ensures.same) ∙ sym c.lend.ensures.value ∙ c.in-Session.is), inr (search rules, search rules)))
+
+pub returns-in-Err-clause-code : goal.returns-in-Err-clause-code
+returns-in-Err-clause-code c = inr (search rules, inr ((c.in-Session.held, ap (λ h. h.value) (sym c.is_open.ensures.same) ∙ sym c.lend.ensures.value ∙ c.in-Session.is), inr (search rules, search rules)))

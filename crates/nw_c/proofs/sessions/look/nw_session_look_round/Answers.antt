@@ -1,4 +1,4 @@
-use Rattle.std.proofs.Common.{◌≡◌, ℕ, List, ap, arith, length, pos, refl, sym, subst, ◌∙◌}
+use Rattle.std.proofs.Common.{◌≡◌, ℕ, List, ap, arith, length, pos, refl, sym, subst, ◌∙◌, inr, rules}
 use Rattle.std.proofs.lemmas.Int.{to_z-of_z}
 use Rattle.nw_ed25519.specs.Accepts.{accepts}
 use Rattle.nw_model.specs.Look.{AreLooks}
@@ -33,3 +33,12 @@ returns-in-Ok-clause-needed c = λ code. (
       (ap (λ h. h.value) (sym c.is_open.ensures.same) ∙ sym c.lend.ensures.value ∙ c.in-Session.is) c.in-Some.ensures.1 refl c.in-Ok.ensures.same c.in-Ok.ensures.seen,
   c.hand_out.ensures.needed ∙ ap length c.deref.ensures.value,
 )
+
+pub returns-in_default-new-clause-code : goal.returns-in_default-new-clause-code
+returns-in_default-new-clause-code c = inr (search rules, inr ((c.in-Session.held, ap (λ h. h.value) (sym c.is_open.ensures.same) ∙ sym c.lend.ensures.value ∙ c.in-Session.is), search rules))
+
+pub returns-in-Ok-clause-code : goal.returns-in-Ok-clause-code
+returns-in-Ok-clause-code c = inr (search rules, inr ((c.in-Session.held, ap (λ h. h.value) (sym c.is_open.ensures.same) ∙ sym c.lend.ensures.value ∙ c.in-Session.is), inr (search rules, search rules)))
+
+pub returns-in-Err-clause-code : goal.returns-in-Err-clause-code
+returns-in-Err-clause-code c = inr (search rules, inr ((c.in-Session.held, ap (λ h. h.value) (sym c.is_open.ensures.same) ∙ sym c.lend.ensures.value ∙ c.in-Session.is), inr (search rules, search rules)))

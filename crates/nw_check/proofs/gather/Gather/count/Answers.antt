@@ -1,5 +1,4 @@
-use Rattle.std.proofs.Common.{sym, subst}
-use Rattle.nw_codec.specs.Fits.{signers}
+use Rattle.nw_check.proofs.Words.{sym, subst, signers}
 use Rattle.nw_check.specs.Gathering.{Gathering, IsPlace, CanCount}
 use Rattle.nw_check.proofs.Gathered.{counted-gathering, counted-counts}
 use Rattle.nw_check.proofs.gather.Gather.count.Goals as goal

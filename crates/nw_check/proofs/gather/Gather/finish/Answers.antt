@@ -1,4 +1,4 @@
-use Rattle.std.specs.Prelude.{IsTrue}
+use Rattle.nw_check.proofs.Words.{IsTrue}
 use Rattle.nw_check.proofs.Gathered.{gathering-valid}
 use Rattle.nw_check.proofs.gather.Gather.finish.Goals as goal
 

@@ -1,5 +1,4 @@
-use Rattle.std.proofs.Common.{ap}
-use Rattle.std.specs.Prelude.{IsTrue}
+use Rattle.nw_check.proofs.Words.{ap, IsTrue}
 use Rattle.nw_check.specs.Gathering.{Gathering}
 use Rattle.nw_check.proofs.Places.{place_fresh}
 use Rattle.nw_check.proofs.gather.Gather.place_for.Goals as goal

@@ -1,9 +1,4 @@
-use Rattle.std.proofs.Common.{◌≡◌, false, subst}
-use Rattle.std.specs.Prelude.{IsTrue}
-use Rattle.std.specs.List.{All}
-use Rattle.std.proofs.lemmas.List.{take_all}
-use Rattle.std.proofs.lemmas.List.Elements.{All-more}
-use Rattle.nw_model.specs.Checks.{IsSealOf}
+use Rattle.nw_check.proofs.Words.{◌≡◌, false, subst, IsTrue, All, take_all, All-more, IsSealOf}
 use Rattle.nw_check.proofs.Broken.{first_bad}
 use Rattle.nw_check.proofs.verifier.Verifier.first_bad_signer.Goals as goal
 

@@ -1,6 +1,4 @@
-use Rattle.std.proofs.Common.{take}
-use Rattle.std.specs.List.{All}
-use Rattle.nw_model.specs.Checks.{IsSealOf}
+use Rattle.nw_check.proofs.Words.{take, All, IsSealOf}
 use Rattle.nw_check.proofs.verifier.Verifier.first_bad_signer.Given as goal
 
 -- the votes so far have good signatures

@@ -1,4 +1,4 @@
-use Rattle.std.proofs.Common.{[], ap, ◌∙◌, length}
+use Rattle.nw_codec.proofs.Words.{[], ap, ◌∙◌, length}
 use Rattle.nw_codec.proofs.Sizes.{length-body}
 use Rattle.nw_codec.proofs.block.Block.body.Goals as goal
 

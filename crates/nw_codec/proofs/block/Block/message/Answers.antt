@@ -1,4 +1,4 @@
-use Rattle.std.proofs.Common.{rules, []}
+use Rattle.nw_codec.proofs.Words.{rules, []}
 use Rattle.nw_codec.proofs.block.Block.message.Goals as goal
 
 pub returns : goal.returns

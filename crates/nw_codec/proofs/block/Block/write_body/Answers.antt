@@ -1,4 +1,4 @@
-use Rattle.std.proofs.Common.{rules, refl, []}
+use Rattle.nw_codec.proofs.Words.{rules, refl, []}
 use Rattle.nw_codec.specs.Fits.{body_size}
 use Rattle.nw_codec.proofs.Pieces.{filled_front}
 use Rattle.nw_codec.proofs.Sizes.{length-body}

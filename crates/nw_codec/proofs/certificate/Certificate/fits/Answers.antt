@@ -1,4 +1,4 @@
-use Rattle.std.proofs.Common.{arith, ap, length}
+use Rattle.nw_codec.proofs.Words.{arith, ap, length}
 use Rattle.nw_codec.proofs.certificate.Certificate.fits.Goals as goal
 
 pub returns-then-votes-le-MAX_VOTES : goal.returns-then-votes-le-MAX_VOTES

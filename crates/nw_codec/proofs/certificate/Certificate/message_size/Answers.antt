@@ -1,4 +1,4 @@
-use Rattle.std.proofs.Common.{◌∙◌, rules}
+use Rattle.nw_codec.proofs.Words.{◌∙◌, rules}
 use Rattle.nw_codec.proofs.Sizes.{length-certificate}
 use Rattle.nw_codec.proofs.certificate.Certificate.message_size.Goals as goal
 

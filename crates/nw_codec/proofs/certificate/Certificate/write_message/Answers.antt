@@ -1,4 +1,4 @@
-use Rattle.std.proofs.Common.{rules, refl}
+use Rattle.nw_codec.proofs.Words.{rules, refl}
 use Rattle.nw_codec.specs.declared.message.Message.TheVariants as messages
 use Rattle.nw_codec.specs.Fits.{certificate_size}
 use Rattle.nw_codec.specs.Grammar.{message}

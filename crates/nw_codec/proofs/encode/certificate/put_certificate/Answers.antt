@@ -1,7 +1,4 @@
-use Rattle.std.proofs.Common.{arith, subst}
-use Rattle.std.specs.Prelude.{All}
-use Rattle.std.proofs.lemmas.Grind.{common_steps}
-use Rattle.std.proofs.lemmas.Result.{on_ok_weaker}
+use Rattle.nw_codec.proofs.Words.{arith, subst, All, common_steps, on_ok_weaker}
 use Rattle.nw_codec.specs.Grammar.{message}
 use Rattle.nw_codec.specs.Typed.{IsSeal, IsSubject}
 use Rattle.nw_codec.proofs.encode.certificate.put_certificate.Goals as goal

@@ -1,8 +1,4 @@
-use Rattle.std.proofs.Common.{rules, arith, subst}
-use Rattle.std.specs.Prelude.{All}
-use Rattle.std.proofs.lemmas.Grind.{common_steps}
-use Rattle.std.proofs.lemmas.List.{take_all}
-use Rattle.std.proofs.lemmas.List.Elements.{All-more}
+use Rattle.nw_codec.proofs.Words.{rules, arith, subst, All, common_steps, take_all, All-more}
 use Rattle.nw_codec.specs.Typed.{IsSeal}
 use Rattle.nw_codec.proofs.encode.certificate.put_seals.Goals as goal
 

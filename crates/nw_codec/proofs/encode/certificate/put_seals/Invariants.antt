@@ -1,6 +1,4 @@
-use Rattle.std.proofs.Common.{◌≡◌, ◌≤◌, ◌+◌, ◌*◌, ◌++◌, ℕ, List, take}
-use Rattle.std.specs.Prelude.{All}
-use Rattle.std.specs.List.{flat_map}
+use Rattle.nw_codec.proofs.Words.{◌≡◌, ◌≤◌, ◌+◌, ◌*◌, ◌++◌, ℕ, List, take, All, flat_map}
 use Rattle.nw_codec.specs.Grammar.{seal_bytes}
 use Rattle.nw_codec.specs.Typed.{IsSeal}
 use Rattle.nw_codec.proofs.encode.certificate.put_seals.Given as goal

@@ -1,6 +1,4 @@
-use Rattle.std.proofs.Common.{[], ◌++◌, append_assoc, subst}
-use Rattle.std.proofs.lemmas.Result.{on_ok_weaker}
-use Rattle.std.specs.Int.{to_be_bytes, w16}
+use Rattle.nw_codec.proofs.Words.{[], ◌++◌, append_assoc, subst, on_ok_weaker, to_be_bytes, w16}
 use Rattle.nw_codec.specs.Grammar.{round_bytes}
 use Rattle.nw_codec.specs.Typed.{AreBytes}
 use Rattle.nw_codec.proofs.Pieces.{bytes_of}

@@ -1,6 +1,4 @@
-use Rattle.std.proofs.Common.{rules, arith, subst}
-use Rattle.std.proofs.lemmas.Grind.{common_steps}
-use Rattle.std.proofs.lemmas.Result.{on_ok_weaker}
+use Rattle.nw_codec.proofs.Words.{rules, arith, subst, common_steps, on_ok_weaker}
 use Rattle.nw_codec.specs.Grammar.{message}
 use Rattle.nw_codec.specs.Typed.{IsSubject}
 use Rattle.nw_codec.proofs.encode.certificate.put_vote.Goals as goal

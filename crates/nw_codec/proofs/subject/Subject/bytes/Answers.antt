@@ -1,5 +1,4 @@
-use Rattle.std.proofs.Common.{refl, sym, ◌∙◌, append_assoc}
-use Rattle.std.specs.Int.{to_be_bytes, w16}
+use Rattle.nw_codec.proofs.Words.{refl, sym, ◌∙◌, append_assoc, to_be_bytes, w16}
 use Rattle.nw_codec.specs.Grammar.{round_bytes}
 use Rattle.nw_codec.proofs.Placed.{put_last}
 use Rattle.nw_codec.proofs.subject.Subject.bytes.Goals as goal

@@ -1,4 +1,4 @@
-use Rattle.std.proofs.Common.{length, ap, sym, ◌∙◌}
+use Rattle.nw_codec.proofs.Words.{length, ap, sym, ◌∙◌}
 use Rattle.nw_codec.proofs.Packed.{cut_length}
 use Rattle.nw_codec.proofs.transactions.Transactions.len.Goals as goal
 

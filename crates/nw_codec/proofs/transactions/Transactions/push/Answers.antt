@@ -1,4 +1,4 @@
-use Rattle.std.proofs.Common.{◌+◌, ◌∷◌, ◌++◌, [], List, ℕ, ap, sym, ◌∙◌, subst, rules, arith}
+use Rattle.nw_codec.proofs.Words.{◌+◌, ◌∷◌, ◌++◌, [], List, ℕ, ap, sym, ◌∙◌, subst, rules, arith}
 use Rattle.nw_codec.specs.Packed.{ArePacked, cut}
 use Rattle.nw_codec.proofs.Packed.{are_packed_one_more, packed_count, packed_one_more}
 use Rattle.nw_codec.proofs.transactions.Transactions.push.Goals as goal

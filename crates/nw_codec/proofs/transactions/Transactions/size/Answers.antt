@@ -1,4 +1,4 @@
-use Rattle.std.proofs.Common.{◌≡◌, length, rules, ap, ◌∙◌}
+use Rattle.nw_codec.proofs.Words.{◌≡◌, length, rules, ap, ◌∙◌}
 use Rattle.nw_codec.specs.Fits.{transactions_size}
 use Rattle.nw_codec.specs.Packed.{cut}
 use Rattle.nw_codec.proofs.Sizes.{length-transactions}

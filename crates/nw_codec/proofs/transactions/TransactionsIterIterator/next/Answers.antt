@@ -1,4 +1,4 @@
-use Rattle.std.proofs.Common.{◌≡◌, ℕ, suc, ◌∷◌, length, rules, ap, sym, ◌∙◌, subst, arith}
+use Rattle.nw_codec.proofs.Words.{◌≡◌, ℕ, suc, ◌∷◌, length, rules, ap, sym, ◌∙◌, subst, arith}
 use Rattle.nw_codec.specs.Packed.{ArePacked, cut}
 use Rattle.nw_codec.proofs.Packed.{IsNext, next_packed}
 use Rattle.nw_codec.proofs.transactions.TransactionsIterIterator.next.Goals as goal

@@ -1,5 +1,4 @@
-use Rattle.std.proofs.Common.{◌≡◌, ℕ, ap, ◌∙◌, sym, subst}
-use Rattle.std.specs.Cmp.Lexicographic.{pointwise}
+use Rattle.nw_codec.proofs.Words.{◌≡◌, ℕ, ap, ◌∙◌, sym, subst, pointwise}
 use Rattle.nw_codec.specs.Packed.{ArePacked, cut}
 use Rattle.nw_codec.specs.Same.{same_bytes}
 use Rattle.nw_codec.proofs.Packed.{other_counts, same_texts}

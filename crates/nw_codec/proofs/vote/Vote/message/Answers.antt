@@ -1,4 +1,4 @@
-use Rattle.std.proofs.Common.{[]}
+use Rattle.nw_codec.proofs.Words.{[]}
 use Rattle.nw_codec.proofs.vote.Vote.message.Goals as goal
 
 pub returns : goal.returns

@@ -1,4 +1,4 @@
-use Rattle.std.proofs.Common.{rules}
+use Rattle.nw_dag.proofs.Words.{rules}
 use Rattle.nw_dag.specs.Lacking.{IsReady}
 use Rattle.nw_dag.proofs.Retained.{retained}
 use Rattle.nw_dag.proofs.completions.Completions.drop_stale.Goals as goal

@@ -1,7 +1,4 @@
-use Rattle.std.proofs.Common.{ap, sym, subst}
-use Rattle.nw_model.specs.State.{State}
-use Rattle.nw_model.specs.Sound.{IsSound}
-use Rattle.nw_model.specs.View.{Frozen, Shows}
+use Rattle.nw_dag.proofs.Words.{ap, sym, subst, State, IsSound, Frozen, Shows}
 use Rattle.nw_generation.specs.Seen.{Seen}
 use Rattle.nw_dag.proofs.Freezing.{closed, shown}
 use Rattle.nw_dag.proofs.dag.Dag.freeze_for.Goals as goal

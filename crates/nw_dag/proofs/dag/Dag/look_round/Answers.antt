@@ -1,6 +1,5 @@
-use Rattle.std.proofs.Common.{◌∙◌, ap, get_or}
-use Rattle.std.proofs.lemmas.List.{take_all}
-use Rattle.nw_plain.proofs.Looks.{all_looks, authors_of, next_author, next_look, no_looks}
+use Rattle.nw_dag.proofs.Words.{◌∙◌, ap, get_or, take_all}
+use Rattle.nw_dag.proofs.Looks.{all_looks, authors_of, next_author, next_look, no_looks}
 use Rattle.nw_dag.proofs.dag.Dag.look_round.Goals as goal
 
 pub loop-author-init : goal.loop-author-init

@@ -1,5 +1,5 @@
-use Rattle.std.proofs.Common.{◌≡◌, take}
-use Rattle.nw_plain.proofs.Looks.{AreLooksFor, authors_of}
+use Rattle.nw_dag.proofs.Words.{◌≡◌, take}
+use Rattle.nw_dag.proofs.Looks.{AreLooksFor, authors_of}
 use Rattle.nw_dag.proofs.dag.Dag.look_round.Given as goal
 
 -- the authors read so far, each with its look

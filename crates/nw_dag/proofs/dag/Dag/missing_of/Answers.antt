@@ -1,4 +1,4 @@
-use Rattle.std.proofs.Common.{◌≡◌, ◌∙◌, Option, None, Some, is_some, refl, sym, true}
+use Rattle.nw_dag.proofs.Words.{◌≡◌, ◌∙◌, Option, None, Some, is_some, refl, sym, true}
 use Rattle.nw_dag.proofs.Missing.{wanted_by}
 use Rattle.nw_dag.proofs.dag.Dag.missing_of.Goals as goal
 

@@ -1,4 +1,4 @@
-use Rattle.std.proofs.Common.{ap}
+use Rattle.nw_dag.proofs.Words.{ap}
 use Rattle.nw_model.specs.Step.{BoundedState}
 use Rattle.nw_dag.proofs.Freezing.{frozen_opening}
 use Rattle.nw_dag.proofs.Opening.{opening_at_rest}

@@ -1,7 +1,4 @@
-use Rattle.std.proofs.Common.{rules, IsSome}
-use Rattle.std.specs.FinMap.{get}
-use Rattle.nw_model.specs.State.{State}
-use Rattle.nw_digest.proofs.Found.{which}
+use Rattle.nw_dag.proofs.Words.{rules, IsSome, get, State, which}
 use Rattle.nw_dag.proofs.Complete.{complete_ready, ready_complete}
 use Rattle.nw_dag.proofs.dag.Dag.refusal.Goals as goal
 

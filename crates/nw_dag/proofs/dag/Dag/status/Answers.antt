@@ -1,9 +1,4 @@
-use Rattle.std.proofs.Common.{◌≡◌, ◌-◌, length, subst, arith}
-use Rattle.std.proofs.lemmas.List.Elements.{All-contains}
-use Rattle.nw_digest.specs.Order.{digest_cmp}
-use Rattle.nw_model.specs.State.{State}
-use Rattle.nw_model.specs.Paths.{IsComplete}
-use Rattle.nw_model.specs.Missing.{HasCount, IsWanted, wanted_cmp}
+use Rattle.nw_dag.proofs.Words.{◌≡◌, ◌-◌, length, subst, arith, All-contains, digest_cmp, State, IsComplete, HasCount, IsWanted, wanted_cmp}
 use Rattle.nw_dag.specs.Lacking.{IsReady}
 use Rattle.nw_dag.proofs.Complete.{ready_complete}
 use Rattle.nw_dag.proofs.Missing.{wanted_count}

@@ -1,11 +1,7 @@
-use Rattle.std.proofs.Common.{◌≡◌, None, refl, ap, sym, ◌∙◌, subst}
-use Rattle.std.specs.FinMap.{get}
-use Rattle.nw_model.specs.State.{State}
-use Rattle.nw_model.specs.Step.{with_certificate}
+use Rattle.nw_dag.proofs.Words.{◌≡◌, None, refl, ap, sym, ◌∙◌, subst, get, State, with_certificate, Certificate}
 use Rattle.nw_model.proofs.Carried.{certified_anew}
 use Rattle.nw_dag.specs.Frozen.{AreFrozenExcept}
 use Rattle.nw_dag.proofs.Freezing.{frozen_arrived}
-use Rattle.nw_codec.specs.declared.certificate.Certificate.{Certificate}
 use Rattle.nw_dag.proofs.Written.{certified, certificate_arrives, since_certified}
 use Rattle.nw_dag.proofs.dag.Dag.take_certify.Goals as goal
 

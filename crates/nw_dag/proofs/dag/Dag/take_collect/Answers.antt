@@ -1,6 +1,4 @@
-use Rattle.std.proofs.Common.{◌∙◌, ap, sym, subst, arith}
-use Rattle.std.specs.FinMap.{len}
-use Rattle.nw_model.specs.State.{State}
+use Rattle.nw_dag.proofs.Words.{◌∙◌, ap, sym, subst, arith, len, State}
 use Rattle.nw_model.proofs.Firsts.{higher}
 use Rattle.nw_dag.specs.Collection.{HasCompleteBelow}
 use Rattle.nw_dag.specs.Frozen.{AreFrozenExcept}

@@ -1,13 +1,7 @@
-use Rattle.std.proofs.Common.{◌≡◌, ◌+◌, None, [], ap, refl, sym, ◌∙◌, subst}
-use Rattle.std.specs.Prelude.{Contains}
-use Rattle.std.specs.FinMap.{get}
-use Rattle.nw_digest.specs.declared.digest.Digest.{Digest}
-use Rattle.nw_model.specs.State.{State}
-use Rattle.nw_model.specs.Step.{with_block}
+use Rattle.nw_dag.proofs.Words.{◌≡◌, ◌+◌, None, [], ap, refl, sym, ◌∙◌, subst, Contains, get, Digest, State, with_block, Block}
 use Rattle.nw_dag.specs.declared.completions.Completions.{Completions}
 use Rattle.nw_dag.specs.Frozen.{AreFrozenExcept}
 use Rattle.nw_dag.proofs.Freezing.{frozen_arrived, frozen_fewer}
-use Rattle.nw_codec.specs.declared.block.Block.{Block}
 use Rattle.nw_model.proofs.Carried.{stored_anew}
 use Rattle.nw_dag.proofs.Written.{block_arrives, split_at_rest, forgotten, get_other, nothing_unmet, nothing_lacking, since_written, wants_same, written}
 use Rattle.nw_dag.proofs.dag.Dag.take_write.Goals as goal

@@ -1,5 +1,4 @@
-use Rattle.nw_model.specs.declared.wanted.Wanted.{Wanted}
-use Rattle.nw_state.specs.Standing.{IsMet}
+use Rattle.nw_dag.proofs.Words.{Wanted, IsMet}
 use Rattle.nw_dag.specs.Lacking.{LacksNothing, IsReady}
 use Rattle.nw_dag.proofs.Wanting.{refuted, split_met_on_ok, split_unmet_on_ok, wants_on_ok}
 use Rattle.nw_dag.proofs.waits.Waits.add.Goals as goal

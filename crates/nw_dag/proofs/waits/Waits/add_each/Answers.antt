@@ -1,9 +1,4 @@
-use Rattle.std.proofs.Common.{◌≡◌, ◌+◌, List, [], ◌∷◌, ◌++◌, get_or, take, sym, ◌∙◌, subst}
-use Rattle.std.proofs.lemmas.List.{take_more}
-use Rattle.nw_codec.specs.declared.block.Ref.{Ref}
-use Rattle.nw_model.specs.declared.wanted.Wanted.{Wanted}
-use Rattle.nw_model.specs.State.{State}
-use Rattle.nw_state.specs.Standing.{IsMet}
+use Rattle.nw_dag.proofs.Words.{◌≡◌, ◌+◌, List, [], ◌∷◌, ◌++◌, get_or, take, sym, ◌∙◌, subst, take_more, Ref, Wanted, State, IsMet}
 use Rattle.nw_dag.specs.Lacking.{IsReady, IsNamedAmong}
 use Rattle.nw_dag.specs.Changes.{LacksAlso}
 use Rattle.nw_dag.proofs.Wanting.{wants_more, same_through, ready_same, ready_back}

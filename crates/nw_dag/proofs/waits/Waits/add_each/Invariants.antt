@@ -1,5 +1,5 @@
+use Rattle.nw_dag.proofs.Words.{IsMet}
 use Rattle.std.specs.Prelude.{◌≡◌, ◌+◌, take}
-use Rattle.nw_state.specs.Standing.{IsMet}
 use Rattle.nw_dag.specs.Lacking.{AreSplit, IsReady, IsNamedAmong}
 use Rattle.nw_dag.specs.Changes.{AreSameExcept, LacksAlso}
 use Rattle.nw_dag.proofs.waits.Waits.add_each.Given as goal

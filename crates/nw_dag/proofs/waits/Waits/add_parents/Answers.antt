@@ -1,4 +1,4 @@
-use Rattle.std.proofs.Common.{◌∙◌}
+use Rattle.nw_dag.proofs.Words.{◌∙◌}
 use Rattle.nw_dag.proofs.Written.{forgotten}
 use Rattle.nw_dag.proofs.waits.Waits.add_parents.Goals as goal
 

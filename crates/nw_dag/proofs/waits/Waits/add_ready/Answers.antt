@@ -1,8 +1,4 @@
-use Rattle.std.proofs.Common.{◌≡◌, ◌+◌, List, [], ◌∷◌, ◌++◌, get_or, take, refl, sym, ◌∙◌, subst}
-use Rattle.std.proofs.lemmas.List.{take_more}
-use Rattle.std.proofs.lemmas.List.Elements.{Contains-get_or}
-use Rattle.nw_digest.specs.declared.digest.Digest.{Digest}
-use Rattle.nw_waiting.specs.Pairs.{Pairs}
+use Rattle.nw_dag.proofs.Words.{◌≡◌, ◌+◌, List, [], ◌∷◌, ◌++◌, get_or, take, refl, sym, ◌∙◌, subst, take_more, Contains-get_or, Digest, Pairs}
 use Rattle.nw_dag.specs.Lacking.{IsReady}
 use Rattle.nw_dag.specs.Changes.{AppendsThose}
 use Rattle.nw_dag.proofs.Listed.{adds_more, adds_none, pending_next}

@@ -1,13 +1,9 @@
-use Rattle.std.proofs.Common.{◌≡◌, IsSome, drop, refl, sym, subst}
-use Rattle.nw_waiting.specs.Pairs.{Pairs}
+use Rattle.nw_dag.proofs.Words.{◌≡◌, IsSome, drop, refl, sym, subst, Pairs, State, Stands, not_there}
 use Rattle.nw_dag.specs.Frozen.{Grows}
 use Rattle.nw_dag.specs.AtRest.{IsCascading, IsAtRest}
-use Rattle.nw_model.specs.State.{State}
-use Rattle.nw_state.specs.Standing.{Stands}
 use Rattle.nw_dag.specs.Lacking.{LacksNothing, IsReady}
 use Rattle.nw_dag.proofs.Steps.{met_by_name, not_standing, not_ready, now_ready, pending_but, grown_none, grown_from}
 use Rattle.nw_dag.proofs.Wanting.{refuted}
-use Rattle.nw_digest.proofs.Found.{not_there}
 use Rattle.nw_dag.proofs.waits.Waits.arrive.Goals as goal
 
 pub returns-in_default : goal.returns-in_default

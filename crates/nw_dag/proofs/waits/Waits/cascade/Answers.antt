@@ -1,5 +1,4 @@
-use Rattle.std.proofs.Common.{◌∙◌, refl, sym, subst, arith}
-use Rattle.nw_state.specs.Standing.{Stands}
+use Rattle.nw_dag.proofs.Words.{◌∙◌, refl, sym, subst, arith, Stands}
 use Rattle.nw_dag.specs.Lacking.{IsReady}
 use Rattle.nw_dag.specs.Changes.{Promotes}
 use Rattle.nw_dag.proofs.Steps.{count_of, stands_at, cascaded, grown_same, grown_more, none_due}

@@ -1,4 +1,4 @@
-use Rattle.nw_model.specs.State.{State}
+use Rattle.nw_dag.proofs.Words.{State}
 use Rattle.nw_dag.proofs.Collecting.{dropped_fits, count_kept, collected, grown_collected}
 use Rattle.nw_dag.proofs.waits.Waits.collect.Goals as goal
 

@@ -1,6 +1,4 @@
-use Rattle.std.proofs.Common.{◌≡◌, ◌+◌, List, [], ◌∷◌, ◌++◌, get_or, take, refl, sym, subst, arith}
-use Rattle.std.proofs.lemmas.List.{take_all, take_more, length_push}
-use Rattle.nw_digest.specs.declared.digest.Digest.{Digest}
+use Rattle.nw_dag.proofs.Words.{◌≡◌, ◌+◌, List, [], ◌∷◌, ◌++◌, get_or, take, refl, sym, subst, arith, take_all, take_more, length_push, Digest}
 use Rattle.nw_dag.specs.Changes.{AppendsThose}
 use Rattle.nw_dag.specs.Collection.{IsCompleteBelow, HasCompleteBelow}
 use Rattle.nw_dag.proofs.Listed.{adds_more, adds_none, one_added, one_left}

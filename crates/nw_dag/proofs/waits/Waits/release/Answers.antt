@@ -1,9 +1,4 @@
-use Rattle.std.proofs.Common.{◌≡◌, ◌<◌, ◌∙◌, ℕ, List, false, length, ap, sym, subst, arith}
-use Rattle.std.specs.Prelude.{IsTrue, nat_eq}
-use Rattle.std.proofs.lemmas.Bool.{false≢true}
-use Rattle.std.proofs.lemmas.List.{length_push}
-use Rattle.nw_digest.specs.declared.digest.Digest.{Digest}
-use Rattle.nw_waiting.specs.Pairs.{LacksCount, Pairs}
+use Rattle.nw_dag.proofs.Words.{◌≡◌, ◌<◌, ◌∙◌, ℕ, List, false, length, ap, sym, subst, arith, IsTrue, nat_eq, false≢true, length_push, Digest, LacksCount, Pairs}
 use Rattle.nw_dag.specs.declared.completions.Completions.{Completions}
 use Rattle.nw_dag.specs.Collection.{StandsButLacks}
 use Rattle.nw_dag.specs.Lacking.{LacksSomething}

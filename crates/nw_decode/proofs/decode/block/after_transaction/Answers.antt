@@ -1,4 +1,4 @@
-use Rattle.std.proofs.Common.{refl, ◌≤◌, ◌+◌, length, arith}
+use Rattle.nw_decode.proofs.Words.{refl, ◌≤◌, ◌+◌, length, arith}
 use Rattle.std.proofs.lemmas.List.{take_rest}
 use Rattle.nw_decode.specs.Faults.{AtTransactionLength, AtTransaction, at_transactions}
 use Rattle.nw_decode.specs.declared.error.DecodeError.TheVariants.{TransactionTooLong, BodyTooLong}

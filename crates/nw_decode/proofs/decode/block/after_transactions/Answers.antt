@@ -1,4 +1,4 @@
-use Rattle.std.proofs.Common.{suc, ◌+◌, ◌-◌}
+use Rattle.nw_decode.proofs.Words.{suc, ◌+◌, ◌-◌}
 use Rattle.nw_decode.specs.Faults.{AtTransactionLength, at_transactions, Reaches}
 use Rattle.nw_decode.proofs.Fronts.{onward, later}
 use Rattle.nw_decode.proofs.Fields.{exit, one_done}

@@ -1,4 +1,4 @@
-use Rattle.std.proofs.Common.{◌-◌, ◌≤◌}
+use Rattle.nw_decode.proofs.Words.{◌-◌, ◌≤◌}
 use Rattle.nw_decode.specs.Faults.{at_transactions, Reaches}
 use Rattle.nw_decode.proofs.decode.block.after_transactions.Given as goal
 

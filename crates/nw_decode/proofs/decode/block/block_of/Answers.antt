@@ -1,4 +1,4 @@
-use Rattle.std.proofs.Common.{◌≡◌, ap, ◌∙◌, rules, sym}
+use Rattle.nw_decode.proofs.Words.{◌≡◌, ap, ◌∙◌, rules, sym}
 use Rattle.nw_codec.specs.Packed.{cut}
 use Rattle.nw_decode.proofs.OneText.{same_block}
 use Rattle.nw_codec.proofs.Packed.{cut_text}

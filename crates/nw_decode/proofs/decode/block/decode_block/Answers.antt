@@ -1,8 +1,6 @@
-use Rattle.std.proofs.Common.{[], ◌∷◌, inl, inr, refl, sym, subst}
-use Rattle.nw_codec.specs.declared.block.Block.{Block}
+use Rattle.nw_decode.proofs.Words.{[], ◌∷◌, inl, inr, refl, sym, subst, Block, Spells}
 use Rattle.nw_codec.specs.declared.message.Message.TheVariants as messages
 use Rattle.nw_decode.specs.Faults.{AtTag, AtVersion}
-use Rattle.nw_codec.specs.Spelled.{Spells}
 use Rattle.nw_decode.proofs.Fronts.{later, one_field}
 use Rattle.nw_decode.proofs.Fields.{exit}
 use Rattle.nw_decode.proofs.decode.block.decode_block.Goals as goal

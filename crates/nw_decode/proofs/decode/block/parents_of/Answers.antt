@@ -1,8 +1,4 @@
-use Rattle.std.proofs.Common.{◌≡◌, [], length, ap, arith}
-use Rattle.std.proofs.lemmas.List.{length-append, nil_from_length}
-use Rattle.nw_codec.specs.Grammar.{parent_bytes}
-use Rattle.nw_codec.specs.Typed.{IsRef}
-use Rattle.nw_codec.proofs.Building.{one_more_built, all_built}
+use Rattle.nw_decode.proofs.Words.{◌≡◌, [], length, ap, arith, length-append, nil_from_length, parent_bytes, IsRef, one_more_built, all_built}
 use Rattle.nw_decode.proofs.Parts.{length-parent}
 use Rattle.nw_decode.proofs.decode.block.parents_of.Goals as goal
 

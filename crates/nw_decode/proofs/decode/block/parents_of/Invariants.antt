@@ -1,7 +1,4 @@
-use Rattle.std.proofs.Common.{◌≡◌, ◌+◌, ◌*◌, length}
-use Rattle.nw_codec.specs.Grammar.{parent_bytes}
-use Rattle.nw_codec.specs.Typed.{IsRef}
-use Rattle.nw_codec.proofs.Building.{AreBuilt}
+use Rattle.nw_decode.proofs.Words.{◌≡◌, ◌+◌, ◌*◌, length, parent_bytes, IsRef, AreBuilt}
 use Rattle.nw_decode.proofs.decode.block.parents_of.Given as goal
 
 -- The parents so far are built, and the text of the others is left.

@@ -1,7 +1,6 @@
-use Rattle.std.proofs.Common.{◌+◌, length}
+use Rattle.nw_decode.proofs.Words.{◌+◌, length, are_bytes}
 use Rattle.nw_decode.specs.Faults.{AtVersion, AtParentCount, AtTransactionCount, AtSignature, AtEnd}
 use Rattle.nw_decode.proofs.Fronts.{onward, later}
-use Rattle.nw_digest.proofs.Bytes.{are_bytes}
 use Rattle.nw_decode.proofs.Fields.{exit}
 use Rattle.nw_decode.proofs.Parts.{head_leads, signature_ends, signature_leads, block_lies}
 use Rattle.nw_decode.proofs.WholeBlock.{read_block}

@@ -1,4 +1,4 @@
-use Rattle.std.proofs.Common.{refl}
+use Rattle.nw_decode.proofs.Words.{refl}
 use Rattle.nw_decode.specs.declared.error.DecodeError.TheVariants.{Version}
 use Rattle.nw_decode.specs.Faults.{AtVersion, AtAuthor, AtRound}
 use Rattle.nw_decode.proofs.Fronts.{later}

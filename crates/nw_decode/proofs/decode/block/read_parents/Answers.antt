@@ -1,5 +1,4 @@
-use Rattle.std.proofs.Common.{◌+◌, ◌*◌, None}
-use Rattle.std.proofs.lemmas.Result.{MatchResult-weaker}
+use Rattle.nw_decode.proofs.Words.{◌+◌, ◌*◌, None, MatchResult-weaker}
 use Rattle.nw_decode.specs.Faults.{AtParentCount, at_parents}
 use Rattle.nw_decode.proofs.Fronts.{later}
 use Rattle.nw_decode.proofs.Fields.{exit, both}

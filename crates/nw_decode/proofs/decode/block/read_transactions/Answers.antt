@@ -1,5 +1,4 @@
-use Rattle.std.proofs.Common.{ℕ, ◌+◌, List, ◌++◌, ap, ◌∙◌}
-use Rattle.std.specs.Int.{w16, to_be_bytes}
+use Rattle.nw_decode.proofs.Words.{ℕ, ◌+◌, List, ◌++◌, ap, ◌∙◌, w16, to_be_bytes}
 use Rattle.nw_decode.specs.Faults.{AtTransactionCount, AtSignature, at_transactions}
 use Rattle.nw_decode.proofs.Fronts.{onward, later}
 use Rattle.nw_decode.proofs.Fields.{exit}

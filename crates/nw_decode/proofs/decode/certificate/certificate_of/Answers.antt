@@ -1,5 +1,4 @@
-use Rattle.std.proofs.Common.{◌∙◌, ◌++◌, [], ap, sym}
-use Rattle.nw_codec.specs.Subject.{certificate_subject}
+use Rattle.nw_decode.proofs.Words.{◌∙◌, ◌++◌, [], ap, sym, certificate_subject}
 use Rattle.nw_decode.proofs.OneVote.{same_as_certificate, same_subject}
 use Rattle.nw_decode.proofs.Parts.{seals_long, seals_built}
 use Rattle.nw_decode.proofs.decode.certificate.certificate_of.Goals as goal

@@ -1,8 +1,6 @@
-use Rattle.std.proofs.Common.{[], ◌∷◌, inl, inr, refl, sym, subst}
-use Rattle.nw_codec.specs.declared.certificate.Certificate.{Certificate}
+use Rattle.nw_decode.proofs.Words.{[], ◌∷◌, inl, inr, refl, sym, subst, Certificate, Spells}
 use Rattle.nw_codec.specs.declared.message.Message.TheVariants as messages
 use Rattle.nw_decode.specs.Faults.{OfCertificate, AtTag, AtDigest}
-use Rattle.nw_codec.specs.Spelled.{Spells}
 use Rattle.nw_decode.proofs.Fronts.{later, one_field}
 use Rattle.nw_decode.proofs.Fields.{exit}
 use Rattle.nw_decode.proofs.decode.certificate.decode_certificate.Goals as goal

@@ -1,4 +1,4 @@
-use Rattle.std.proofs.Common.{None, refl}
+use Rattle.nw_decode.proofs.Words.{None, refl}
 use Rattle.nw_decode.specs.declared.error.DecodeError.TheVariants.{VoteOrder}
 use Rattle.nw_decode.specs.Faults.{OfVote, AtDigest, AtSigner, AtSealSignature}
 use Rattle.nw_decode.proofs.Fronts.{later}

@@ -1,7 +1,6 @@
-use Rattle.std.proofs.Common.{None}
+use Rattle.nw_decode.proofs.Words.{None, are_bytes}
 use Rattle.nw_decode.specs.Faults.{OfCertificate, AtDigest, AtVoteCount, AtSealSignature, AtEnd, at_seals}
 use Rattle.nw_decode.proofs.Fronts.{onward, later}
-use Rattle.nw_digest.proofs.Bytes.{are_bytes}
 use Rattle.nw_decode.proofs.Fields.{exit}
 use Rattle.nw_decode.proofs.Items.{are_seals}
 use Rattle.nw_decode.proofs.Parts.{short_subject, subject_leads, counts_votes, certificate_lies}

@@ -1,6 +1,4 @@
-use Rattle.std.proofs.Common.{◌≡◌, length, ap, arith}
-use Rattle.std.proofs.lemmas.List.{length-take}
-use Rattle.nw_digest.proofs.Bytes.{are_bytes}
+use Rattle.nw_decode.proofs.Words.{◌≡◌, length, ap, arith, length-take, are_bytes}
 use Rattle.nw_decode.proofs.Fields.{number_len, item_at}
 use Rattle.nw_decode.proofs.decode.certificate.seal_of.Goals as goal
 

@@ -1,8 +1,4 @@
-use Rattle.std.proofs.Common.{◌≡◌, [], length, ap, arith}
-use Rattle.std.proofs.lemmas.List.{length-append, nil_from_length}
-use Rattle.nw_codec.specs.Grammar.{seal_bytes}
-use Rattle.nw_codec.specs.Typed.{IsSeal}
-use Rattle.nw_codec.proofs.Building.{one_more_built, all_built}
+use Rattle.nw_decode.proofs.Words.{◌≡◌, [], length, ap, arith, length-append, nil_from_length, seal_bytes, IsSeal, one_more_built, all_built}
 use Rattle.nw_codec.proofs.Sizes.{length-seal}
 use Rattle.nw_decode.proofs.decode.certificate.seals_of.Goals as goal
 

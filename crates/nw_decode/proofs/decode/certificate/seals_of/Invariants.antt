@@ -1,7 +1,4 @@
-use Rattle.std.proofs.Common.{◌≡◌, ◌+◌, ◌*◌, length}
-use Rattle.nw_codec.specs.Grammar.{seal_bytes}
-use Rattle.nw_codec.specs.Typed.{IsSeal}
-use Rattle.nw_codec.proofs.Building.{AreBuilt}
+use Rattle.nw_decode.proofs.Words.{◌≡◌, ◌+◌, ◌*◌, length, seal_bytes, IsSeal, AreBuilt}
 use Rattle.nw_decode.proofs.decode.certificate.seals_of.Given as goal
 
 -- The seals so far are built, and the text of the others is left.

@@ -1,4 +1,4 @@
-use Rattle.nw_digest.proofs.Bytes.{are_bytes}
+use Rattle.nw_decode.proofs.Words.{are_bytes}
 use Rattle.nw_decode.proofs.Fields.{number_at}
 use Rattle.nw_decode.proofs.decode.fields.number_of.Goals as goal
 

@@ -1,4 +1,4 @@
-use Rattle.std.proofs.Common.{arith}
+use Rattle.nw_decode.proofs.Words.{arith}
 use Rattle.nw_decode.proofs.Fields.{exit, short_as, count_fails, count_leads}
 use Rattle.nw_decode.proofs.decode.fields.read_count.Goals as goal
 

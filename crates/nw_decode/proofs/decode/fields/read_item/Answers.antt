@@ -1,8 +1,5 @@
-use Rattle.std.proofs.Common.{rules, length, ◌≡◌, ◌++◌, suc, sym, ◌∙◌, Some, arith}
-use Rattle.std.specs.Int.{w16, to_be_bytes}
-use Rattle.std.proofs.lemmas.List.{length-append}
+use Rattle.nw_decode.proofs.Words.{rules, length, ◌≡◌, ◌++◌, suc, sym, ◌∙◌, Some, arith, w16, to_be_bytes, length-append, are_bytes}
 use Rattle.nw_decode.proofs.Fronts.{onward, later}
-use Rattle.nw_digest.proofs.Bytes.{are_bytes}
 use Rattle.nw_decode.proofs.Fields.{exit, passed_as, short_as, item_at, member_leads, member_fails}
 use Rattle.nw_decode.proofs.decode.fields.read_item.Goals as goal
 

@@ -1,4 +1,4 @@
-use Rattle.std.proofs.Common.{◌≡◌, suc, ◌+◌, ◌-◌, [], ◌++◌, None, refl, subst, rules, arith}
+use Rattle.nw_decode.proofs.Words.{◌≡◌, suc, ◌+◌, ◌-◌, [], ◌++◌, None, refl, subst, rules, arith}
 use Rattle.nw_decode.specs.Faults.{Stage, Reaches}
 use Rattle.nw_decode.proofs.Fronts.{onward, later}
 use Rattle.nw_decode.proofs.Fields.{exit, one_done, one_more_item, items_found}

@@ -1,4 +1,4 @@
-use Rattle.std.proofs.Common.{ℕ, ◌+◌, ◌-◌, List, Option, None}
+use Rattle.nw_decode.proofs.Words.{ℕ, ◌+◌, ◌-◌, List, Option, None}
 use Rattle.nw_decode.specs.Faults.{Stage, Reaches}
 use Rattle.nw_decode.specs.Parts.{ItemsAt, AreItems}
 use Rattle.nw_decode.proofs.decode.fields.read_items.Given as goal

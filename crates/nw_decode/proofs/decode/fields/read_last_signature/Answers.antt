@@ -1,6 +1,6 @@
 use Rattle.nw_decode.specs.Faults.{AtEnd}
 use Rattle.nw_decode.proofs.Fronts.{later}
-use Rattle.nw_digest.proofs.Bytes.{are_bytes}
+use Rattle.nw_decode.proofs.Words.{are_bytes}
 use Rattle.nw_decode.proofs.Fields.{exit, passed_as, short_as, signature_at}
 use Rattle.nw_decode.proofs.decode.fields.read_last_signature.Goals as goal
 

@@ -1,6 +1,4 @@
-use Rattle.std.proofs.Common.{◌≡◌, length, ap, arith, rules, refl}
-use Rattle.std.proofs.lemmas.List.{length-drop}
-use Rattle.nw_digest.proofs.Bytes.{are_bytes}
+use Rattle.nw_decode.proofs.Words.{◌≡◌, length, ap, arith, rules, refl, length-drop, are_bytes}
 use Rattle.nw_decode.proofs.Fields.{round_leaves}
 use Rattle.nw_decode.proofs.Parts.{subject_read}
 use Rattle.nw_decode.proofs.decode.fields.subject_of.Goals as goal

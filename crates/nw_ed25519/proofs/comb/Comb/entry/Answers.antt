@@ -1,5 +1,4 @@
-use Rattle.std.proofs.Common.{ℕ, ◌*◌, ◌+◌, ◌/◌, ◌^◌, ◌<◌, ◌∙◌, ap, subst, sym, List, get_or, arith}
-use Rattle.nw_curve.specs.declared.curve.completed.AffineAddend.{AffineAddend}
+use Rattle.nw_ed25519.proofs.Words.{ℕ, ◌*◌, ◌+◌, ◌/◌, ◌^◌, ◌<◌, ◌∙◌, ap, subst, sym, List, get_or, arith, AffineAddend}
 use Rattle.nw_ed25519.proofs.Combs.{in_row, in_row_below, place_within, rows_entry, blocks_of}
 use Rattle.nw_ed25519.proofs.comb.Comb.entry.Goals as goal
 

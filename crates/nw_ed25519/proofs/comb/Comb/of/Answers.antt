@@ -1,4 +1,4 @@
-use Rattle.std.proofs.Common.{◌/◌, ◌^◌, ◌++◌, ◌∙◌, ap, subst, sym, arith}
+use Rattle.nw_ed25519.proofs.Words.{◌/◌, ◌^◌, ◌++◌, ◌∙◌, ap, subst, sym, arith}
 use Rattle.nw_ed25519.specs.Comb.{AreProper, blocks}
 use Rattle.nw_ed25519.proofs.Combs.{no_rows, first_row, next_rows, row_next, blocks_of}
 use Rattle.nw_ed25519.proofs.comb.Comb.of.Goals as goal

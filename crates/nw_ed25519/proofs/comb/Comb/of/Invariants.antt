@@ -1,4 +1,4 @@
-use Rattle.std.proofs.Common.{◌≡◌, ◌*◌, ◌/◌, ◌^◌, vec_len}
+use Rattle.nw_ed25519.proofs.Words.{◌≡◌, ◌*◌, ◌/◌, ◌^◌, vec_len}
 use Rattle.nw_ed25519.specs.Comb.{AreAllProper, rows, row_point}
 use Rattle.nw_ed25519.proofs.comb.Comb.of.Given as goal
 

@@ -1,6 +1,4 @@
-use Rattle.std.proofs.Common.{◌∙◌, ap, subst, sym}
-use Rattle.nw_curve.specs.Curve.{base}
-use Rattle.nw_curve.proofs.Decoding.{affine_base, base_valid, base_represents}
+use Rattle.nw_ed25519.proofs.Words.{◌∙◌, ap, subst, sym, base, affine_base, base_valid, base_represents}
 use Rattle.nw_ed25519.specs.Comb.{AreAllProper, rows}
 use Rattle.nw_ed25519.proofs.CombSums.{all_proper}
 use Rattle.nw_ed25519.proofs.keys.PreparedBase.new.Goals as goal

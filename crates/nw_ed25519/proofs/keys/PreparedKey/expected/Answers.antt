@@ -1,7 +1,4 @@
-use Rattle.std.proofs.Common.{refl, sym, ◌∙◌}
-use Rattle.nw_codec.specs.Same.{same_bytes}
-use Rattle.std.specs.Prelude.{take}
-use Rattle.nw_curve.specs.Coding.{decoded, encoded}
+use Rattle.nw_ed25519.proofs.Words.{refl, sym, ◌∙◌, same_bytes, take, decoded, encoded}
 use Rattle.nw_ed25519.proofs.Remainders.{bits_below, challenge_bits}
 use Rattle.nw_ed25519.proofs.Verdicts.{s_not_below_order, compared, not_a_point, no_comb, comb_of_point, comb_bits}
 use Rattle.nw_ed25519.proofs.keys.PreparedKey.expected.Goals as goal

@@ -1,4 +1,4 @@
-use Rattle.nw_curve.proofs.Decoding.{decoded_point}
+use Rattle.nw_ed25519.proofs.Words.{decoded_point}
 use Rattle.nw_ed25519.proofs.KeyCombs.{no_key, key_with_comb}
 use Rattle.nw_ed25519.proofs.keys.PreparedKey.of.Goals as goal
 use Rattle.nw_ed25519.proofs.keys.PreparedKey.of.Goals.{in-None, in-Some+in_ok-of-in-Some}

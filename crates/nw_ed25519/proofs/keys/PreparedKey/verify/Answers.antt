@@ -1,6 +1,4 @@
-use Rattle.std.proofs.Common.{sym, ◌∙◌, ap, List, ℕ}
-use Rattle.nw_codec.specs.Same.{same_bytes}
-use Rattle.std.specs.Prelude.{take}
+use Rattle.nw_ed25519.proofs.Words.{sym, ◌∙◌, ap, List, ℕ, same_bytes, take}
 use Rattle.nw_ed25519.proofs.keys.PreparedKey.verify.Goals as goal
 
 pub returns-in-Some : goal.returns-in-Some

@@ -1,8 +1,5 @@
-use Rattle.std.proofs.Common.{length, ap, ◌∷◌, [], ◌∙◌, arith}
+use Rattle.nw_generation.proofs.Words.{length, ap, ◌∷◌, [], ◌∙◌, arith, FinMap, get, Block, digest_cmp}
 use Rattle.std.proofs.lemmas.List.{length-append}
-use Rattle.std.specs.FinMap.{FinMap, get}
-use Rattle.nw_codec.specs.declared.block.Block.{Block}
-use Rattle.nw_digest.specs.Order.{digest_cmp}
 use Rattle.nw_generation.proofs.Unions.{older_has}
 use Rattle.nw_generation.proofs.descent.Descent.descend_to.Goals as goal
 

@@ -1,4 +1,4 @@
-use Rattle.std.proofs.Common.{length}
+use Rattle.nw_generation.proofs.Words.{length}
 use Rattle.nw_generation.specs.Seen.{HasUpTo, union}
 use Rattle.nw_generation.proofs.descent.Descent.descend_to.Given as goal
 

@@ -1,4 +1,4 @@
-use Rattle.std.proofs.Common.{sym, ◌∙◌}
+use Rattle.nw_generation.proofs.Words.{sym, ◌∙◌}
 use Rattle.nw_generation.proofs.Unions.{get_here, get_older, get_from_none, of_latest}
 use Rattle.nw_generation.proofs.descent.Descent.get.Goals as goal
 

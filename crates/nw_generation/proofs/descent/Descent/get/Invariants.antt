@@ -1,5 +1,4 @@
-use Rattle.std.proofs.Common.{◌≡◌, length}
-use Rattle.std.specs.FinMap.{get}
+use Rattle.nw_generation.proofs.Words.{◌≡◌, length, get}
 use Rattle.nw_generation.specs.Seen.{union}
 use Rattle.nw_generation.proofs.descent.Descent.get.Given as goal
 

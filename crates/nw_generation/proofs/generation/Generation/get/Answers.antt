@@ -1,9 +1,4 @@
-use Rattle.std.proofs.Common.{List, ap, sym, subst, ◌∙◌}
-use Rattle.std.specs.FinMap.{FinMap, get}
-use Rattle.nw_digest.specs.declared.digest.Digest.{Digest}
-use Rattle.nw_codec.specs.declared.block.Block.{Block}
-use Rattle.nw_digest.specs.Order.{digest_cmp}
-use Rattle.nw_digest.proofs.Maps.{digests_total, get_lookup}
+use Rattle.nw_generation.proofs.Words.{List, ap, sym, subst, ◌∙◌, FinMap, get, Digest, Block, digest_cmp, digests_total, get_lookup}
 use Rattle.nw_generation.specs.Entries.{under}
 use Rattle.nw_generation.specs.Seen.{IsOfRound}
 use Rattle.nw_generation.proofs.generation.Generation.get.Goals as goal

@@ -1,4 +1,4 @@
-use Rattle.std.proofs.Common.{length}
+use Rattle.nw_generation.proofs.Words.{length}
 use Rattle.nw_generation.proofs.generations.Generations.join_start.Given as goal
 
 abbrev pub decreases-loop-generation : goal.decreases-loop-generation

@@ -1,9 +1,5 @@
-use Rattle.std.proofs.Common.{◌≡◌, List, IfOk, ap, subst, ◌∙◌}
-use Rattle.std.specs.Prelude.{filter, nat_le}
-use Rattle.nw_digest.specs.declared.digest.Digest.{Digest}
-use Rattle.std.specs.FinMap.{FinMap, from_entries}
-use Rattle.nw_codec.specs.declared.block.Block.{Block}
-use Rattle.nw_digest.specs.Order.{digest_cmp}
+use Rattle.nw_generation.proofs.Words.{◌≡◌, List, ap, subst, ◌∙◌, filter, nat_le, Digest, FinMap, from_entries, Block, digest_cmp}
+use Rattle.std.proofs.Common.{IfOk}
 use Rattle.nw_model.specs.Step.{from_round}
 use Rattle.nw_model.proofs.Raised.{filtered_round}
 use Rattle.nw_generation.specs.declared.generation.Generation.{Generation}

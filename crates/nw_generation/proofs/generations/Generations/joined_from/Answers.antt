@@ -1,8 +1,4 @@
-use Rattle.std.proofs.Common.{◌≡◌, ◌++◌, ◌∷◌, [], List, ap, sym, ◌∙◌}
-use Rattle.std.specs.Prelude.{filter, nat_le}
-use Rattle.std.specs.FinMap.{FinMap, from_entries}
-use Rattle.nw_codec.specs.declared.block.Block.{Block}
-use Rattle.nw_digest.specs.Order.{digest_cmp}
+use Rattle.nw_generation.proofs.Words.{◌≡◌, ◌++◌, ◌∷◌, [], List, ap, sym, ◌∙◌, filter, nat_le, FinMap, from_entries, Block, digest_cmp}
 use Rattle.nw_generation.specs.Seen.{Joined, union}
 use Rattle.nw_generation.proofs.Searches.{Entries, filtered_all, filtered_ascend}
 use Rattle.nw_generation.proofs.Unions.{union_joined}

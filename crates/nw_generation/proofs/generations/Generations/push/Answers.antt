@@ -1,6 +1,4 @@
-use Rattle.std.proofs.Common.{ap, ◌∙◌}
-use Rattle.std.specs.Option.{option_or}
-use Rattle.std.specs.FinMap.{get}
+use Rattle.nw_generation.proofs.Words.{ap, ◌∙◌, option_or, get}
 use Rattle.nw_generation.specs.Seen.{Joined, union}
 use Rattle.nw_generation.proofs.Unions.{get_latest}
 use Rattle.nw_generation.proofs.generations.Generations.push.Goals as goal

@@ -1,7 +1,5 @@
-use Rattle.std.proofs.Common.{◌≡◌, false, true, List, sym, subst}
+use Rattle.nw_generation.proofs.Words.{◌≡◌, false, true, List, sym, subst, Digest, Block}
 use Rattle.std.specs.Prelude.{All}
-use Rattle.nw_digest.specs.declared.digest.Digest.{Digest}
-use Rattle.nw_codec.specs.declared.block.Block.{Block}
 use Rattle.nw_generation.specs.Entries.{under}
 use Rattle.nw_generation.specs.Seen.{IsOfRound, IsWithin}
 use Rattle.nw_generation.proofs.Unions.{none_of}

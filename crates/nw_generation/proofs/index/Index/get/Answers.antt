@@ -1,4 +1,4 @@
-use Rattle.std.proofs.Common.{sym, subst}
+use Rattle.nw_generation.proofs.Words.{sym, subst}
 use Rattle.nw_generation.specs.Slots.{AreSlotsOf}
 use Rattle.nw_generation.proofs.index.Index.get.Goals as goal
 

@@ -1,8 +1,7 @@
-use Rattle.std.proofs.Common.{◌≡◌, ◌<◌, ℕ, true, is_lt, nat_cmp, List, sym, subst, ◌∙◌, arith}
+use Rattle.nw_generation.proofs.Words.{◌≡◌, ◌<◌, ℕ, true, List, sym, subst, ◌∙◌, arith, Digest, Block}
+use Rattle.std.proofs.Common.{is_lt, nat_cmp}
 use Rattle.std.specs.Prelude.{All}
 use Rattle.std.proofs.lemmas.Bool.Decides.{nat_tests}
-use Rattle.nw_digest.specs.declared.digest.Digest.{Digest}
-use Rattle.nw_codec.specs.declared.block.Block.{Block}
 use Rattle.nw_generation.specs.Seen.{IsWithin}
 use Rattle.nw_generation.proofs.Unions.{within_at}
 use Rattle.nw_generation.proofs.index.Index.is_above.Goals as goal

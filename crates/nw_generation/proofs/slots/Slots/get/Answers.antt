@@ -1,4 +1,5 @@
-use Rattle.std.proofs.Common.{sym, ◌∙◌, rules}
+use Rattle.nw_generation.proofs.Words.{sym, ◌∙◌}
+use Rattle.std.proofs.Common.{rules}
 use Rattle.nw_generation.proofs.Slotted.{slot_answers}
 use Rattle.nw_generation.proofs.slots.Slots.get.Goals as goal
 

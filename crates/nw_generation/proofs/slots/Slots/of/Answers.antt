@@ -1,4 +1,4 @@
-use Rattle.std.proofs.Common.{◌≡◌, Some}
+use Rattle.nw_generation.proofs.Words.{◌≡◌, Some}
 use Rattle.std.proofs.lemmas.List.Sorted.{All-permutation}
 use Rattle.nw_generation.specs.declared.slots.SlottedBlock.{SlottedBlock}
 use Rattle.nw_generation.specs.Entries.{under}

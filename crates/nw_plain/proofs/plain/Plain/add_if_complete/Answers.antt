@@ -1,9 +1,4 @@
-use Rattle.std.proofs.Common.{◌≡◌, Some, sym, ◌∙◌, ap, refl, inl, inr}
-use Rattle.std.specs.FinMap.{FinMap, get, insert, from_entries}
-use Rattle.nw_codec.specs.declared.block.Block.{Block}
-use Rattle.nw_digest.specs.Order.{digest_cmp}
-use Rattle.nw_model.specs.View.{IsCompletedBy}
-use Rattle.nw_digest.proofs.Maps.{get_lookup, inserted, digests_total, digests_apart}
+use Rattle.nw_plain.proofs.Words.{◌≡◌, Some, sym, ◌∙◌, ap, refl, inl, inr, FinMap, get, insert, from_entries, Block, digest_cmp, IsCompletedBy, get_lookup, inserted, digests_total, digests_apart}
 use Rattle.nw_model.proofs.Complete.{completed_low, not_completed}
 use Rattle.nw_plain.proofs.plain.Plain.add_if_complete.Goals as goal
 use Rattle.nw_plain.proofs.plain.Plain.add_if_complete.Goals.{then-le-via-then-le, then-le-via-else-le+then-has_parents}

@@ -1,4 +1,4 @@
-use Rattle.std.proofs.Common.{subst, sym}
+use Rattle.nw_plain.proofs.Words.{subst, sym}
 use Rattle.nw_plain.specs.Added.{IsUnionWith, NamesMissing}
 use Rattle.nw_plain.proofs.Wanting.{lacks_one}
 use Rattle.nw_plain.proofs.plain.Plain.add_if_unsatisfied.Goals as goal

@@ -1,6 +1,4 @@
-use Rattle.std.proofs.Common.{[], subst, ◌∙◌}
-use Rattle.std.proofs.lemmas.List.{take_all}
-use Rattle.nw_codec.specs.declared.block.Ref.{Ref}
+use Rattle.nw_plain.proofs.Words.{[], subst, ◌∙◌, take_all, Ref}
 use Rattle.nw_plain.specs.Added.{IsUnionWith, NamesMissing}
 use Rattle.nw_plain.proofs.Wanting.{Of, adds_next, of_references}
 use Rattle.nw_plain.proofs.plain.Plain.add_unsatisfied.Goals as goal

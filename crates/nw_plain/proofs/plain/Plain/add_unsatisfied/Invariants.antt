@@ -1,9 +1,8 @@
-use Rattle.std.proofs.Common.{take}
+use Rattle.nw_plain.proofs.Words.{take, wanted_cmp}
 use Rattle.std.specs.List.Sorted.{IsStrictlySortedBy}
 use Rattle.nw_plain.specs.Added.{IsUnionWith, NamesMissing}
 use Rattle.nw_plain.proofs.Wanting.{Of}
 use Rattle.nw_plain.proofs.plain.Plain.add_unsatisfied.Given as goal
-use Rattle.nw_model.specs.Missing.{wanted_cmp}
 
 abbrev pub invariant-loop-reference : goal.invariant-loop-reference
 invariant-loop-reference l =

@@ -1,4 +1,4 @@
-use Rattle.std.proofs.Common.{◌∙◌}
+use Rattle.nw_plain.proofs.Words.{◌∙◌}
 use Rattle.nw_plain.proofs.Dropped.{dropped_count}
 use Rattle.nw_plain.proofs.plain.Plain.blocks_below.Goals as goal
 

@@ -1,8 +1,6 @@
-use Rattle.nw_model.specs.State.{State}
-use Rattle.nw_model.specs.Paths.{IsComplete}
-use Rattle.nw_model.specs.Sound.{IsSound}
+use Rattle.nw_plain.proofs.Words.{State, IsComplete, IsSound, complete_there}
 use Rattle.nw_model.specs.View.{Shows}
-use Rattle.nw_model.proofs.Views.{complete_there, walk_is_causal}
+use Rattle.nw_model.proofs.Views.{walk_is_causal}
 use Rattle.nw_plain.proofs.plain.Plain.causal_reply.Goals as goal
 
 pub walk-requires : goal.walk-requires

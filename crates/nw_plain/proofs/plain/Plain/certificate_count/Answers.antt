@@ -1,5 +1,4 @@
-use Rattle.std.proofs.Common.{sym, ◌∙◌}
-use Rattle.nw_digest.proofs.Maps.{len_sorted, digests_total}
+use Rattle.nw_plain.proofs.Words.{sym, ◌∙◌, len_sorted, digests_total}
 use Rattle.nw_plain.proofs.plain.Plain.certificate_count.Goals as goal
 
 pub returns : goal.returns

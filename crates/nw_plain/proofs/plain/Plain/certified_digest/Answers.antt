@@ -1,10 +1,4 @@
-use Rattle.std.proofs.Common.{sym, ◌∙◌, ap}
-use Rattle.std.specs.FinMap.{from_entries}
-use Rattle.nw_digest.specs.Order.{digest_cmp, slot_cmp}
-use Rattle.nw_model.specs.State.{State}
-use Rattle.nw_model.specs.Step.{certified_digest}
-use Rattle.nw_digest.proofs.Maps.{get_lookup, slots_total}
-use Rattle.nw_model.proofs.Kept.{index_answers}
+use Rattle.nw_plain.proofs.Words.{sym, ◌∙◌, ap, from_entries, digest_cmp, slot_cmp, State, certified_digest, get_lookup, slots_total, index_answers}
 use Rattle.nw_plain.proofs.plain.Plain.certified_digest.Goals as goal
 
 pub returns : goal.returns

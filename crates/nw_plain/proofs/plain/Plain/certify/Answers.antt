@@ -1,18 +1,9 @@
-use Rattle.std.proofs.Common.{◌≡◌, List, None, Result, Ok, Err, sym, ◌∙◌, ap, refl}
-use Rattle.std.specs.FinMap.{FinMap, from_entries}
-use Rattle.std.specs.Map.{lookup}
-use Rattle.std.specs.BTreeMap.{is_at, insert_entry}
-use Rattle.std.proofs.lemmas.Result.{on_ok_weaker}
+use Rattle.nw_plain.proofs.Words.{◌≡◌, List, None, sym, ◌∙◌, ap, refl, FinMap, from_entries, lookup, is_at, on_ok_weaker, Digest, Certificate, digest_cmp, Slot, slot_cmp, State, certificate_slot, certified_digest, get_lookup, put_entries, digests_total, digests_apart, slots_total, slots_apart, absent, index_answers}
+use Rattle.std.proofs.Common.{Result, Ok, Err}
+use Rattle.std.specs.BTreeMap.{insert_entry}
 use Rattle.std.specs.Prelude.{OnErr}
-use Rattle.nw_digest.specs.declared.digest.Digest.{Digest}
-use Rattle.nw_codec.specs.declared.certificate.Certificate.{Certificate}
-use Rattle.nw_digest.specs.Order.{digest_cmp, Slot, slot_cmp}
-use Rattle.nw_model.specs.State.{State, certificate_slot}
-use Rattle.nw_model.specs.Step.{certified_digest}
-use Rattle.nw_digest.proofs.Maps.{get_lookup, put_entries, digests_total, digests_apart, slots_total, slots_apart}
-use Rattle.nw_digest.proofs.Found.{absent}
 use Rattle.nw_plain.proofs.Held.{held_certificate}
-use Rattle.nw_model.proofs.Kept.{index_answers, kept_after_certify}
+use Rattle.nw_model.proofs.Kept.{kept_after_certify}
 use Rattle.nw_plain.proofs.plain.Plain.certify.Goals as goal
 
 -- the maps after a failed allocation, as finite maps

@@ -1,8 +1,4 @@
-use Rattle.std.proofs.Common.{subst}
-use Rattle.std.specs.FinMap.{from_entries}
-use Rattle.nw_digest.specs.Order.{digest_cmp}
-use Rattle.nw_model.specs.State.{State}
-use Rattle.nw_model.specs.Sound.{IsSound}
+use Rattle.nw_plain.proofs.Words.{subst, from_entries, digest_cmp, State, IsSound}
 use Rattle.nw_plain.proofs.Freezing.{SoFar, all_left, one_fewer, none_left}
 use Rattle.nw_plain.proofs.plain.Plain.complete_blocks.Goals as goal
 

@@ -1,5 +1,4 @@
-use Rattle.std.specs.FinMap.{from_entries}
-use Rattle.nw_digest.specs.Order.{digest_cmp}
+use Rattle.nw_plain.proofs.Words.{from_entries, digest_cmp}
 use Rattle.nw_plain.proofs.Freezing.{SoFar}
 use Rattle.nw_plain.proofs.plain.Plain.complete_blocks.Given as goal
 

@@ -1,4 +1,4 @@
-use Rattle.std.proofs.Common.{refl}
+use Rattle.nw_plain.proofs.Words.{refl}
 use Rattle.nw_plain.proofs.Counting.{complete_count}
 use Rattle.nw_plain.proofs.plain.Plain.counts.Goals as goal
 

@@ -1,5 +1,4 @@
-use Rattle.std.proofs.Common.{sym, ◌∙◌}
-use Rattle.nw_digest.proofs.Maps.{get_lookup, slots_total}
+use Rattle.nw_plain.proofs.Words.{sym, ◌∙◌, get_lookup, slots_total}
 use Rattle.nw_plain.proofs.plain.Plain.first.Goals as goal
 
 pub returns : goal.returns

@@ -1,11 +1,6 @@
-use Rattle.std.proofs.Common.{Bor, ◌≡◌, true, Option, Some, None, IsSome, is_some, ap, sym, ◌∙◌}
+use Rattle.nw_plain.proofs.Words.{◌≡◌, true, Some, None, IsSome, ap, sym, ◌∙◌, from_entries, digest_cmp, State, IsSound, Frozen, get_lookup, digests_total}
+use Rattle.std.proofs.Common.{Bor, Option, is_some}
 use Rattle.std.specs.Option.{option_copied}
-use Rattle.std.specs.FinMap.{from_entries}
-use Rattle.nw_digest.specs.Order.{digest_cmp}
-use Rattle.nw_model.specs.State.{State}
-use Rattle.nw_model.specs.Sound.{IsSound}
-use Rattle.nw_model.specs.View.{Frozen}
-use Rattle.nw_digest.proofs.Maps.{get_lookup, digests_total}
 use Rattle.nw_model.proofs.Complete.{closed, shown, complete_there, complete_not_there}
 use Rattle.nw_plain.proofs.plain.Plain.freeze_for.Goals as goal
 

@@ -1,6 +1,4 @@
-use Rattle.std.proofs.Common.{◌≡◌, ◌∙◌, ap, sym, arith}
-use Rattle.std.specs.FinMap.{len}
-use Rattle.nw_model.specs.State.{State}
+use Rattle.nw_plain.proofs.Words.{◌≡◌, ◌∙◌, ap, sym, arith, len, State}
 use Rattle.nw_model.proofs.Sames.{nothing, no_blocks, no_certificates, no_firsts, not_opening, zero_decides}
 use Rattle.nw_plain.proofs.plain.Plain.is_opening.Goals as goal
 use Rattle.nw_plain.proofs.plain.Plain.is_opening.Goals.{then-block_count-gt0-via-then-block_count-gt0, then-block_count-gt0-via-else-block_count-gt0+then-certificate_count-gt0}

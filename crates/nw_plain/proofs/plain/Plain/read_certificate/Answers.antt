@@ -1,5 +1,4 @@
-use Rattle.std.proofs.Common.{Some, sym, ◌∙◌, ap}
-use Rattle.nw_digest.proofs.Maps.{get_lookup, digests_total}
+use Rattle.nw_plain.proofs.Words.{Some, sym, ◌∙◌, ap, get_lookup, digests_total}
 use Rattle.nw_plain.proofs.plain.Plain.read_certificate.Goals as goal
 
 pub returns-in-None : goal.returns-in-None

@@ -1,7 +1,4 @@
-use Rattle.std.specs.FinMap.{from_entries}
-use Rattle.nw_digest.specs.Order.{digest_cmp, slot_cmp}
-use Rattle.nw_model.specs.State.{State}
-use Rattle.nw_digest.proofs.Maps.{inserted, digests_total, digests_apart}
+use Rattle.nw_plain.proofs.Words.{from_entries, digest_cmp, slot_cmp, State, inserted, digests_total, digests_apart}
 use Rattle.nw_model.proofs.Kept.{kept_written}
 use Rattle.nw_plain.proofs.Held.{held}
 use Rattle.nw_plain.proofs.plain.Plain.store.Goals as goal

@@ -1,12 +1,5 @@
-use Rattle.std.proofs.Common.{◌≡◌, None, refl, sym, ◌∙◌, ap}
-use Rattle.std.specs.FinMap.{get, insert, from_entries}
-use Rattle.std.specs.Map.{lookup}
-use Rattle.std.specs.BTreeMap.{is_at}
-use Rattle.std.proofs.lemmas.Result.{on_ok_weaker, on_err_weaker}
-use Rattle.nw_digest.specs.Order.{digest_cmp, Slot, slot_cmp}
-use Rattle.nw_model.specs.State.{State, block_slot}
-use Rattle.nw_digest.proofs.Maps.{get_lookup, put_entries, digests_total, digests_apart, slots_total, slots_apart}
-use Rattle.nw_digest.proofs.Found.{absent}
+use Rattle.nw_plain.proofs.Words.{◌≡◌, None, refl, sym, ◌∙◌, ap, get, insert, from_entries, lookup, is_at, on_ok_weaker, digest_cmp, Slot, slot_cmp, State, block_slot, get_lookup, put_entries, digests_total, digests_apart, slots_total, slots_apart, absent}
+use Rattle.std.proofs.lemmas.Result.{on_err_weaker}
 use Rattle.nw_plain.proofs.Held.{held_first}
 use Rattle.nw_model.proofs.Kept.{kept_after_write}
 use Rattle.nw_plain.proofs.plain.Plain.store_first.Goals as goal

@@ -1,5 +1,4 @@
-use Rattle.std.proofs.Common.{subst}
-use Rattle.nw_model.specs.Missing.{Wants}
+use Rattle.nw_plain.proofs.Words.{subst, Wants}
 use Rattle.nw_plain.specs.Added.{IsUnionWith}
 use Rattle.nw_plain.proofs.Wanting.{SoFar, one_done, all_done}
 use Rattle.nw_plain.proofs.plain.Plain.wanted.Goals as goal

@@ -1,6 +1,5 @@
-use Rattle.std.proofs.Common.{◌≡◌, rules, subst, sym}
+use Rattle.nw_plain.proofs.Words.{◌≡◌, rules, subst, sym, ListsExactly, Wants, wanted_cmp}
 use Rattle.std.proofs.iter.runs.Made.{chains}
-use Rattle.nw_model.specs.Missing.{ListsExactly, Wants, wanted_cmp}
 use Rattle.nw_plain.specs.Added.{IsUnionWith}
 use Rattle.nw_plain.proofs.Wanting.{only_wanted}
 use Rattle.nw_plain.proofs.plain.Plain.wanted_by.Goals as goal

@@ -1,7 +1,4 @@
-use Rattle.std.proofs.Common.{Some, sym, ◌∙◌, ap}
-use Rattle.std.specs.FinMap.{from_entries}
-use Rattle.nw_digest.specs.Order.{digest_cmp}
-use Rattle.nw_digest.proofs.Maps.{get_lookup, digests_total}
+use Rattle.nw_plain.proofs.Words.{Some, sym, ◌∙◌, ap, from_entries, digest_cmp, get_lookup, digests_total}
 use Rattle.nw_model.proofs.Complete.{no_parent, round_decides, other_author}
 use Rattle.nw_plain.proofs.plain.causal.has_parent.Goals as goal
 

@@ -1,11 +1,9 @@
-use Rattle.std.proofs.Common.{rules, tests, ◌≡◌, Bool, true, false}
+use Rattle.nw_plain.proofs.Words.{rules, ◌≡◌, Bool, true, false, from_entries, Ref, digest_cmp}
+use Rattle.std.proofs.Common.{tests}
 use Rattle.std.specs.Bool.{MatchBool}
-use Rattle.std.specs.FinMap.{from_entries}
 use Rattle.std.proofs.lemmas.Iterator.{cases_from_all, YieldsList-from_slice}
 use Rattle.std.proofs.lemmas.Iterator.Search.{true_from_All}
 use Rattle.std.proofs.lemmas.List.Elements.{All-from_all_within}
-use Rattle.nw_codec.specs.declared.block.Ref.{Ref}
-use Rattle.nw_digest.specs.Order.{digest_cmp}
 use Rattle.nw_model.specs.View.{HasParent}
 use Rattle.nw_plain.proofs.plain.causal.has_parents.Goals as goal
 

@@ -1,5 +1,4 @@
-use Rattle.std.proofs.Common.{◌≡◌, nat_le, rules, refl, ap, ◌∙◌}
-use Rattle.std.proofs.lemmas.Map.Entries.{filter_from_retain_pairs}
+use Rattle.nw_plain.proofs.Words.{◌≡◌, nat_le, rules, refl, ap, ◌∙◌, filter_from_retain_pairs}
 use Rattle.nw_plain.proofs.plain.collection.retain_blocks.Goals as goal
 
 pub returns-clause-kept : goal.returns-clause-kept

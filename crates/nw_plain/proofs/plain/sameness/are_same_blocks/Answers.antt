@@ -1,6 +1,5 @@
-use Rattle.std.proofs.Common.{◌≡◌, rules}
-use Rattle.nw_digest.proofs.Maps.{digests_total, digests_apart}
-use Rattle.nw_model.proofs.Sames.{maps_decide, other_length, same_block_decides, same_blocks, same_digest_decides}
+use Rattle.nw_plain.proofs.Words.{◌≡◌, rules, digests_total, digests_apart, maps_decide, other_length, same_digest_decides}
+use Rattle.nw_model.proofs.Sames.{same_block_decides, same_blocks}
 use Rattle.nw_plain.proofs.plain.sameness.are_same_blocks.Goals as goal
 
 pub returns-then-len : goal.returns-then-len

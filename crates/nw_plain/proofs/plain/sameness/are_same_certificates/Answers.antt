@@ -1,6 +1,5 @@
-use Rattle.std.proofs.Common.{◌≡◌, rules}
-use Rattle.nw_digest.proofs.Maps.{digests_total, digests_apart}
-use Rattle.nw_model.proofs.Sames.{maps_decide, other_length, same_certificate_decides, same_certificates, same_digest_decides}
+use Rattle.nw_plain.proofs.Words.{◌≡◌, rules, digests_total, digests_apart, maps_decide, other_length, same_digest_decides}
+use Rattle.nw_model.proofs.Sames.{same_certificate_decides, same_certificates}
 use Rattle.nw_plain.proofs.plain.sameness.are_same_certificates.Goals as goal
 
 pub returns-then-len : goal.returns-then-len

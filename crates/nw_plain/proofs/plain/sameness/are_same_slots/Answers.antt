@@ -1,6 +1,5 @@
-use Rattle.std.proofs.Common.{◌≡◌, rules}
-use Rattle.nw_digest.proofs.Maps.{slots_total, slots_apart}
-use Rattle.nw_model.proofs.Sames.{maps_decide, other_length, same_digest_decides, same_slot_decides, same_slots}
+use Rattle.nw_plain.proofs.Words.{◌≡◌, rules, slots_total, slots_apart, maps_decide, other_length, same_digest_decides}
+use Rattle.nw_model.proofs.Sames.{same_slot_decides, same_slots}
 use Rattle.nw_plain.proofs.plain.sameness.are_same_slots.Goals as goal
 
 pub returns-then-len : goal.returns-then-len

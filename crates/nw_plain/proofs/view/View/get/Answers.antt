@@ -1,5 +1,4 @@
-use Rattle.std.proofs.Common.{sym, ◌∙◌}
-use Rattle.nw_digest.proofs.Maps.{get_lookup, digests_total}
+use Rattle.nw_plain.proofs.Words.{sym, ◌∙◌, get_lookup, digests_total}
 use Rattle.nw_plain.proofs.view.View.get.Goals as goal
 
 pub returns-clause-block : goal.returns-clause-block

@@ -1,5 +1,4 @@
-use Rattle.std.proofs.Common.{◌≡◌}
-use Rattle.std.specs.Prelude.{filter, nat_le}
+use Rattle.nw_rounds.proofs.Words.{◌≡◌, filter, nat_le}
 use Rattle.std.specs.BTreeMap.{btree_map_len}
 use Rattle.nw_rounds.proofs.rounds.Rounds.drop_below.Given as goal
 

@@ -1,5 +1,4 @@
-use Rattle.std.proofs.Common.{◌∙◌, sym, ap}
-use Rattle.std.specs.FinMap.{get}
+use Rattle.nw_rounds.proofs.Words.{◌∙◌, sym, ap, get}
 use Rattle.nw_rounds.specs.declared.kind.DigestKind.TheVariants.{First}
 use Rattle.nw_rounds.specs.Slots.{Tables}
 use Rattle.nw_rounds.proofs.OfKind.{get_in}

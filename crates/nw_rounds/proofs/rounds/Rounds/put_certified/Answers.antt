@@ -1,7 +1,8 @@
-use Rattle.std.proofs.Common.{◌∙◌, ap, refl}
-use Rattle.std.specs.FinMap.{insert}
+use Rattle.nw_rounds.proofs.Words.{◌∙◌, sym, ap, subst, refl, insert}
+use Rattle.std.proofs.lemmas.Map.Views.{All-keys-insert_entry}
 use Rattle.nw_rounds.specs.declared.kind.DigestKind.TheVariants.{First, Certified}
 use Rattle.nw_rounds.specs.Slots.{Tables}
+use Rattle.nw_rounds.specs.Places.{AreRounds, IsOfRound, place_cmp}
 use Rattle.nw_rounds.proofs.OfKind.{put_elsewhere, put_there}
 use Rattle.nw_rounds.proofs.rounds.Rounds.put_certified.Goals as goal
 
@@ -15,3 +16,8 @@ pub returns-clause-firsts : goal.returns-clause-firsts
 returns-clause-firsts g c =
     put_elsewhere c.self.inside.digests.entries c.insert.new.self.entries (c.get.result, c.args.author) Certified c.args.digest (λ p. c.in_ok-insert.ensures.updates.0 p) First refl
     ∙ ap (λ (t : Tables). t.firsts) c.self.view_is
+
+pub invariant_of-self-2 : goal.invariant_of-self-2
+invariant_of-self-2 g c =
+    subst AreRounds (sym c.in_ok-insert.ensures.entries)
+    (All-keys-insert_entry place_cmp ((c.get.result, c.args.author), Certified) c.args.digest IsOfRound c.self.inside.digests.entries c.self.invariant c.get.ensures.in_range)

@@ -1,13 +1,9 @@
-use Rattle.std.proofs.Common.{rules, ◌∙◌, subst}
-use Rattle.nw_book.specs.Answered.{IsExplained}
-use Rattle.nw_book.specs.Command.{call_of, committee_of}
-use Rattle.nw_book.specs.Journal.{origin_of}
-use Rattle.nw_book.specs.Turn.{MatchesCommittee}
-use Rattle.nw_book.specs.Settled.{IsJournalOf}
-use Rattle.nw_shared_store.specs.Session.{IsRefused, IsSameSession, SessionView}
+use Rattle.nw_shared_store.proofs.Words.{rules, IfErr, ◌∙◌, subst, IsExplained, call_of, committee_of, origin_of, MatchesCommittee, IsJournalOf}
+use Rattle.nw_shared_store.specs.Session.{IsRefusedBy, IsSameSession, SessionView}
 use Rattle.nw_shared_store.specs.declared.error.Refusal.TheVariants as refusals
-use Rattle.nw_shared_store.proofs.Seated.{session_may_free, refused_of, unchanged_session, view_at, session_freed, as_before, same_view}
-use Rattle.nw_shared_store.proofs.Answered.{may_call, may_end, same_called, refused, session_after, explained, own, own_committee}
+use Rattle.nw_shared_store.proofs.Seated.{may_read, refused_by_of, view_at}
+use Rattle.nw_shared_store.proofs.Answered.{may_call, may_end, same_called, refused_seen, same_reader, session_after, session_knowing, explained, own, own_committee, recorded, still_goes_on}
+use Rattle.nw_shared_store.proofs.Recorded.{no_question}
 use Rattle.nw_shared_store.proofs.session.SharedSession.call.Goals as goal
 
 pub call_at-requires-clause-locked : goal.call_at-requires-clause-locked
@@ -18,27 +14,23 @@ pub end_call-requires-clause-called : goal.end_call-requires-clause-called
 end_call-requires-clause-called g c =
     may_end g.S.Scheme.accepts _ _ _ _ _ _ c.self.invariant c.in_ok-take_in.ensures.got (committee_of c.args.command.now) _ _ _ _ c.call_at.ensures.view c.in-Ok.ensures.taken
 
-pub give_back-requires-clause-same : goal.give_back-requires-clause-same
-give_back-requires-clause-same g c =
-    session_may_free _ _ _ _ _ _ c.self.invariant c.in_ok-take_in.ensures.got _ c.in-Err.ensures.unchanged
+pub end_reading-requires-clause-same : goal.end_reading-requires-clause-same
+end_reading-requires-clause-same g c =
+    may_read g.S.Scheme.accepts _ _ _ c.in_ok-take_in.ensures.got c.in-Err.ensures.unchanged
 
 pub invariant_of-self-in-Err : goal.invariant_of-self-in-Err
 invariant_of-self-in-Err g c =
-    session_freed _ _ _ _ _ _ c.self.invariant c.in_ok-take_in.ensures.got _ _ _ (c.give_back.ensures.at ∙ (c.call_at.ensures.at ∙ c.take_in.ensures.at)) c.in-Err.ensures.unchanged c.give_back.ensures.freed
+    session_knowing g.S.Scheme.accepts _ _ _ _ _ _ c.self.invariant c.in_ok-take_in.ensures.got _ _ c.in-Err.ensures.unchanged c.end_reading.ensures.read _ (c.end_reading.ensures.at ∙ (c.call_at.ensures.at ∙ c.take_in.ensures.at))
 
 pub returns-in-Err-clause-refused : goal.returns-in-Err-clause-refused
 returns-in-Err-clause-refused g c =
-    subst (λ (v : SessionView). IsRefused g.S.Scheme.accepts (origin_of v.first) v.journal (committee_of c.args.command.now) (refusals.NoStep c.in-Err.why)) c.self.view_is
-    (refused g.S.Scheme.accepts _ _ _ _ _ _ c.self.invariant c.in_ok-take_in.ensures.got (committee_of c.args.command.now) c.in-Err.why c.in-Err.ensures.refused)
+    subst (λ (v : SessionView). IsRefusedBy g.S.Scheme.accepts v (view_at c.self.inside.lock.value.shared.table_id c.end_reading.new.seat.me) (committee_of c.args.command.now) (refusals.NoStep c.in-Err.why)) c.self.view_is
+    (refused_seen g.S.Scheme.accepts _ _ _ _ _ _ c.self.invariant c.in_ok-take_in.ensures.got _ _ c.in-Err.ensures.unchanged c.end_reading.ensures.read (committee_of c.args.command.now) c.in-Err.why c.in-Err.ensures.refused)
 
 pub returns-in-Err-clause-same : goal.returns-in-Err-clause-same
 returns-in-Err-clause-same g c =
-    subst (λ (v : SessionView). IsSameSession v (view_at c.self.inside.lock.value.shared.table_id c.give_back.new.seat.me)) c.self.view_is
-    (unchanged_session _ _ _ (as_before _ _ _ _ _ _ c.self.invariant c.in_ok-take_in.ensures.got _ _ c.in-Err.ensures.unchanged c.give_back.ensures.freed))
-
-pub returns-in-Err-clause-unchanged : goal.returns-in-Err-clause-unchanged
-returns-in-Err-clause-unchanged g c =
-    same_view (as_before _ _ _ _ _ _ c.self.invariant c.in_ok-take_in.ensures.got _ _ c.in-Err.ensures.unchanged c.give_back.ensures.freed) ∙ c.self.view_is
+    subst (λ (v : SessionView). IsSameSession v (view_at c.self.inside.lock.value.shared.table_id c.end_reading.new.seat.me)) c.self.view_is
+    (same_reader g.S.Scheme.accepts _ _ _ _ _ _ c.self.invariant c.in_ok-take_in.ensures.got _ _ c.in-Err.ensures.unchanged c.end_reading.ensures.read)
 
 pub invariant_of-self-2 : goal.invariant_of-self-2
 invariant_of-self-2 g c =
@@ -65,4 +57,14 @@ returns-clause-own_committee g c =
     (own_committee g.S.Scheme.accepts _ _ _ _ _ _ c.self.invariant c.in_ok-take_in.ensures.got (committee_of c.args.command.now) _ _ _ _ c.call_at.ensures.view c.in-Ok.ensures.taken)
 
 pub returns-in_err-take_in-clause-refused : goal.returns-in_err-take_in-clause-refused
-returns-in_err-take_in-clause-refused g c = refused_of g.S.Scheme.accepts c.args.self.now.first c.args.self.now.journal (committee_of c.args.command.now) c.from_residual.result (search rules)
+returns-in_err-take_in-clause-refused g c =
+    subst (λ (v : SessionView). IfErr c.from_residual.result (IsRefusedBy g.S.Scheme.accepts v (view_at c.self.inside.lock.value.shared.table_id c.take_in.new.seat.me) (committee_of c.args.command.now))) c.self.view_is
+    (refused_by_of g.S.Scheme.accepts _ c.self.inside.seat.me c.take_in.new.seat.me (committee_of c.args.command.now) c.from_residual.result (search rules))
+
+pub returns-clause-goes_on : goal.returns-clause-goes_on
+returns-clause-goes_on g c =
+    still_goes_on g.S.Scheme.accepts _ _ _ _ _ _ c.self.invariant c.in_ok-take_in.ensures.got (committee_of c.args.command.now) _ _ _ _ c.call_at.ensures.view c.in-Ok.ensures.taken _ c.end_call.ensures.released
+
+pub returns-clause-recorded : goal.returns-clause-recorded
+returns-clause-recorded g c =
+    recorded g.S.Scheme.accepts _ _ _ _ _ _ c.self.invariant c.in_ok-take_in.ensures.got (committee_of c.args.command.now) _ _ _ _ c.call_at.ensures.view c.in-Ok.ensures.taken (no_question c.args.command.now)

@@ -1,18 +1,20 @@
-use Rattle.std.proofs.Common.{rules, ◌∙◌, subst}
-use Rattle.nw_shared_store.specs.Session.{IsPassing, IsRenewed, SessionView}
+use Rattle.nw_shared_store.proofs.Words.{◌≡◌, rules, refl, ◌∙◌, subst}
+use Rattle.nw_shared_store.specs.Session.{IsRenewed, SessionView}
+use Rattle.nw_shared_store.specs.declared.error.Refusal.{Refusal}
 use Rattle.nw_shared_store.specs.declared.error.Refusal.TheVariants as refusals
-use Rattle.nw_shared_store.proofs.Seated.{has_value, may_free, of_cause, view_at}
-use Rattle.nw_shared_store.proofs.Renewed.{may_renew, renewed, session_renewed, session_stayed, stayed}
+use Rattle.nw_shared_store.proofs.Seated.{has_value, of_cause, view_at}
+use Rattle.nw_shared_store.proofs.Renewed.{may_look, may_renew, renewed, session_renewed, session_stayed, stayed}
 use Rattle.nw_shared_store.proofs.session.SharedSession.renew.Goals as goal
 
 pub returns-in_err-try_take-clause-refused : goal.returns-in_err-try_take-clause-refused
-returns-in_err-try_take-clause-refused g c = of_cause IsPassing refusals.Busy c.from_residual.result tt (search rules)
+returns-in_err-try_take-clause-refused g c = of_cause (λ (why : Refusal). why ≡ refusals.Busy) refusals.Busy c.from_residual.result refl (search rules)
 
 pub run_at-present-requires-clause-locked : goal.run_at-present-requires-clause-locked
-run_at-present-requires-clause-locked g c = has_value _ _ c.in_ok-try_take.ensures.got
+run_at-present-requires-clause-locked g c = has_value g.S.Scheme.accepts _ _ c.in_ok-try_take.ensures.got
 
 pub end_reading-requires-clause-same : goal.end_reading-requires-clause-same
-end_reading-requires-clause-same g c = may_free _ _ _ c.in_ok-try_take.ensures.got c.run_at-present.ensures.same
+end_reading-requires-clause-same g c =
+    may_look g.S.Scheme.accepts _ _ _ _ _ _ c.self.invariant c.in_ok-try_take.ensures.got _ c.run_at-present.ensures.same _ c.run_at-present.ensures.run c.if-present-self.true
 
 pub invariant_of-self-then-present-self : goal.invariant_of-self-then-present-self
 invariant_of-self-then-present-self g c =

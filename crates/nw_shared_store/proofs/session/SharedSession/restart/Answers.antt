@@ -1,11 +1,11 @@
-use Rattle.std.proofs.Common.{rules, ◌∙◌, subst, refl, sym}
-use Rattle.nw_shared_store.specs.Session.{IsRestarted, IsUnseen, SessionView}
-use Rattle.nw_shared_store.proofs.Seated.{as_before, session_has_value, session_may_free, same_view, session_freed, unseen_of, view_at}
+use Rattle.nw_shared_store.proofs.Words.{rules, IfErr, ◌∙◌, subst, refl, sym}
+use Rattle.nw_shared_store.specs.Session.{IsKept, IsRestarted, IsUnseen, SessionView}
+use Rattle.nw_shared_store.proofs.Seated.{kept_of, as_before, session_has_value, session_may_free, same_view, session_freed, unseen_of, view_at}
 use Rattle.nw_shared_store.proofs.Answered.{may_restart, restarted, session_restarted}
 use Rattle.nw_shared_store.proofs.session.SharedSession.restart.Goals as goal
 
 pub returns-in_err-take_in-clause-refused : goal.returns-in_err-take_in-clause-refused
-returns-in_err-take_in-clause-refused g c = unseen_of c.from_residual.result (search rules)
+returns-in_err-take_in-clause-refused g c = unseen_of c.self.inside.seat.me c.take_in.new.seat.me c.from_residual.result (search rules)
 
 pub restart_at-requires-clause-locked : goal.restart_at-requires-clause-locked
 restart_at-requires-clause-locked g c = session_has_value _ _ _ _ _ _ c.self.invariant c.in_ok-take_in.ensures.got
@@ -22,7 +22,13 @@ invariant_of-self-in-Err g c =
 
 pub returns-in-Err-clause-unchanged : goal.returns-in-Err-clause-unchanged
 returns-in-Err-clause-unchanged g c =
-    same_view (as_before _ _ _ _ _ _ c.self.invariant c.in_ok-take_in.ensures.got _ _ c.in-Err.ensures.unchanged c.give_back.ensures.freed) ∙ c.self.view_is
+    subst (IsKept c.args.self.now (view_at c.self.inside.lock.value.shared.table_id c.give_back.new.seat.me)) (sym c.from.ensures)
+    (same_view (as_before _ _ _ _ _ _ c.self.invariant c.in_ok-take_in.ensures.got _ _ c.in-Err.ensures.unchanged c.give_back.ensures.freed) ∙ c.self.view_is)
+
+pub returns-in_err-take_in-clause-unchanged : goal.returns-in_err-take_in-clause-unchanged
+returns-in_err-take_in-clause-unchanged g c =
+    subst (λ (v : SessionView). IfErr c.from_residual.result (IsKept v (view_at c.self.inside.lock.value.shared.table_id c.take_in.new.seat.me))) c.self.view_is
+    (kept_of _ c.self.inside.seat.me c.take_in.new.seat.me c.from_residual.result (search rules))
 
 pub join-requires-clause-joins : goal.join-requires-clause-joins
 join-requires-clause-joins g c =

@@ -1,4 +1,4 @@
-use Rattle.std.proofs.lemmas.Result.{IfOk-weaker}
+use Rattle.nw_state.proofs.Words.{IfOk-weaker}
 use Rattle.nw_state.proofs.Slotted.{listed_authors}
 use Rattle.nw_state.proofs.tables.StateTables.authors.Goals as goal
 

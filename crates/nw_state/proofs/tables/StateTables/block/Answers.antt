@@ -1,5 +1,4 @@
-use Rattle.std.proofs.Common.{sym, ◌∙◌}
-use Rattle.nw_digest.proofs.Maps.{get_lookup, digests_total}
+use Rattle.nw_state.proofs.Words.{sym, ◌∙◌, get_lookup, digests_total}
 use Rattle.nw_state.proofs.tables.StateTables.block.Goals as goal
 
 pub returns-clause-value : goal.returns-clause-value

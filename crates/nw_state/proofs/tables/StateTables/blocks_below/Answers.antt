@@ -1,5 +1,4 @@
-use Rattle.std.proofs.Common.{◌∙◌, filter, length, map, ap, arith}
-use Rattle.std.specs.Map.Iter.{deref_pair}
+use Rattle.nw_state.proofs.Words.{◌∙◌, filter, length, map, ap, arith, deref_pair}
 use Rattle.std.proofs.lemmas.List.{length-map}
 use Rattle.std.proofs.lemmas.List.Sums.{length-filter, count_by-le-length}
 use Rattle.std.proofs.lemmas.Map.Iter.{iter_end, iter_turn}

@@ -1,5 +1,4 @@
-use Rattle.std.proofs.Common.{◌≡◌, filter, length, map}
-use Rattle.std.specs.Map.Iter.{deref_pair}
+use Rattle.nw_state.proofs.Words.{◌≡◌, filter, length, map, deref_pair}
 use Rattle.nw_state.specs.Collection.{counts_at}
 use Rattle.nw_state.proofs.tables.StateTables.blocks_below.Given as goal
 

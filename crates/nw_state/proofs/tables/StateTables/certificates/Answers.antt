@@ -1,5 +1,4 @@
-use Rattle.std.proofs.Common.{sym, ◌∙◌}
-use Rattle.nw_digest.proofs.Maps.{len_sorted, digests_total}
+use Rattle.nw_state.proofs.Words.{sym, ◌∙◌, len_sorted, digests_total}
 use Rattle.nw_state.proofs.tables.StateTables.certificates.Goals as goal
 
 pub returns-clause-count : goal.returns-clause-count

@@ -1,6 +1,4 @@
-use Rattle.std.proofs.Common.{◌∙◌, ap}
-use Rattle.nw_model.specs.Step.{certified_digest}
-use Rattle.nw_model.proofs.Kept.{index_answers}
+use Rattle.nw_state.proofs.Words.{◌∙◌, ap, certified_digest, index_answers}
 use Rattle.nw_state.specs.StateTables.{state_of}
 use Rattle.nw_state.proofs.tables.StateTables.certified.Goals as goal
 

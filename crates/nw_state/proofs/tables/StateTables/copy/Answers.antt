@@ -1,8 +1,4 @@
-use Rattle.std.proofs.Common.{◌≡◌, ap, sym, subst, ◌∙◌}
-use Rattle.std.specs.FinMap.{from_entries}
-use Rattle.nw_rounds.specs.Slots.{HasAllDigests}
-use Rattle.nw_model.specs.State.{State}
-use Rattle.nw_digest.proofs.Maps.{digests_total, get_lookup}
+use Rattle.nw_state.proofs.Words.{◌≡◌, ap, sym, subst, ◌∙◌, from_entries, HasAllDigests, State, digests_total, get_lookup}
 use Rattle.nw_state.proofs.Copied.{block_listed, certificate_listed, sound_copy}
 use Rattle.nw_state.proofs.tables.StateTables.copy.Goals as goal
 

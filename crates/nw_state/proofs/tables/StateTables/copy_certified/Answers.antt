@@ -1,13 +1,4 @@
-use Rattle.std.proofs.Common.{◌≡◌, ◌+◌, List, [], ◌∷◌, ◌++◌, get_or, take, sym, ap, ◌∙◌, subst}
-use Rattle.std.proofs.lemmas.List.{take_all, take_more}
-use Rattle.std.specs.Option.{option_copied}
-use Rattle.std.specs.BTreeMap.{insert_entry}
-use Rattle.std.specs.FinMap.{from_entries}
-use Rattle.nw_digest.specs.declared.digest.Digest.{Digest}
-use Rattle.nw_digest.specs.Order.{slot_cmp}
-use Rattle.nw_codec.specs.declared.certificate.Certificate.{Certificate}
-use Rattle.nw_model.specs.State.{State, certificate_slot}
-use Rattle.nw_digest.proofs.Maps.{slots_total}
+use Rattle.nw_state.proofs.Words.{◌≡◌, ◌+◌, List, [], ◌∷◌, ◌++◌, get_or, take, sym, ap, ◌∙◌, subst, take_all, take_more, option_copied, insert_entry, from_entries, Digest, slot_cmp, Certificate, State, certificate_slot, slots_total}
 use Rattle.nw_state.proofs.Gathered.{gathered, gathers_none}
 use Rattle.nw_state.proofs.Copied.{GathersSlots, IsCertifiedAt, certified_put, certified_skip}
 use Rattle.nw_state.proofs.tables.StateTables.copy_certified.Goals as goal

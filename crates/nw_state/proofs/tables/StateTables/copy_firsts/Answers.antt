@@ -1,13 +1,4 @@
-use Rattle.std.proofs.Common.{◌≡◌, ◌+◌, true, false, List, [], ◌∷◌, ◌++◌, Some, get_or, take, sym, ap, ◌∙◌, subst}
-use Rattle.std.proofs.lemmas.List.{take_all, take_more}
-use Rattle.std.proofs.lemmas.Option.{same_Some}
-use Rattle.std.specs.BTreeMap.{insert_entry}
-use Rattle.std.specs.FinMap.{from_entries, get, same_map}
-use Rattle.nw_digest.specs.declared.digest.Digest.{Digest}
-use Rattle.nw_digest.specs.Order.{slot_cmp}
-use Rattle.nw_model.specs.declared.wanted.Wanted.{Wanted}
-use Rattle.nw_model.specs.State.{State}
-use Rattle.nw_digest.proofs.Maps.{slots_apart, slots_total}
+use Rattle.nw_state.proofs.Words.{◌≡◌, ◌+◌, true, false, List, [], ◌∷◌, ◌++◌, Some, get_or, take, sym, ap, ◌∙◌, subst, take_all, take_more, same_Some, insert_entry, from_entries, get, same_map, Digest, slot_cmp, Wanted, State, slots_apart, slots_total}
 use Rattle.nw_state.proofs.Slotted.{named_decides}
 use Rattle.nw_state.proofs.Gathered.{gathered, gathers_none, same_values}
 use Rattle.nw_state.proofs.Copied.{AreVoted, GathersSlots, IsFirstAt, first_put, first_skip, named, no_some, not_named}

@@ -1,5 +1,4 @@
-use Rattle.std.proofs.Common.{take}
-use Rattle.std.specs.FinMap.{from_entries}
+use Rattle.nw_state.proofs.Words.{take, from_entries}
 use Rattle.nw_state.proofs.Copied.{GathersSlots, IsFirstAt}
 use Rattle.nw_state.proofs.tables.StateTables.copy_firsts.Given as goal
 

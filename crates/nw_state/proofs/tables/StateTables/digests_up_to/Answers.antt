@@ -1,6 +1,6 @@
 use Rattle.nw_state.proofs.HeldRaised.{gathered}
 use Rattle.nw_state.proofs.tables.StateTables.digests_up_to.Goals as goal
-use Rattle.std.proofs.lemmas.Result.{IfOk-weaker}
+use Rattle.nw_state.proofs.Words.{IfOk-weaker}
 
 pub returns-clause-digests : goal.returns-clause-digests
 returns-clause-digests c =

@@ -1,4 +1,4 @@
-use Rattle.std.proofs.Common.{sym, ◌∙◌}
+use Rattle.nw_state.proofs.Words.{sym, ◌∙◌}
 use Rattle.nw_state.proofs.Slotted.{named_decides, first_held, met, met_certified, met_held}
 use Rattle.nw_state.proofs.tables.StateTables.is_met.Goals as goal
 

@@ -1,5 +1,5 @@
+use Rattle.nw_state.proofs.Words.{digest_cmp}
 use Rattle.nw_model.proofs.Kept.{kept_opening}
-use Rattle.nw_digest.specs.Order.{digest_cmp}
 use Rattle.nw_digest.proofs.Elements.{ordered_none}
 use Rattle.nw_state.proofs.Opening.{nothing_listed, nothing_voted}
 use Rattle.nw_state.proofs.tables.StateTables.new.Goals as goal

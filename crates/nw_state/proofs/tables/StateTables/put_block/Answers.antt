@@ -1,12 +1,4 @@
-use Rattle.std.proofs.Common.{◌≡◌, None, cond, refl, ap, sym, ◌∙◌}
-use Rattle.std.specs.FinMap.{insert}
-use Rattle.std.specs.Map.{lookup, remove_entry}
-use Rattle.std.specs.BTreeMap.{is_at}
-use Rattle.nw_codec.specs.declared.block.Block.{Block}
-use Rattle.nw_digest.specs.Order.{digest_cmp}
-use Rattle.nw_model.specs.State.{block_slot}
-use Rattle.nw_digest.proofs.Maps.{get_lookup, digests_total}
-use Rattle.nw_digest.proofs.Found.{absent}
+use Rattle.nw_state.proofs.Words.{◌≡◌, None, cond, refl, ap, sym, ◌∙◌, insert, lookup, remove_entry, is_at, Block, digest_cmp, block_slot, get_lookup, digests_total, absent}
 use Rattle.nw_state.proofs.Puts.{taken_back, block_held, same_held}
 use Rattle.nw_state.proofs.tables.StateTables.put_block.Goals as goal
 

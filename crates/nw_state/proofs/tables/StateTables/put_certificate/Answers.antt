@@ -1,14 +1,4 @@
-use Rattle.std.proofs.Common.{◌≡◌, None, refl, ap, sym, ◌∙◌}
-use Rattle.std.specs.FinMap.{get, insert}
-use Rattle.std.specs.Map.{lookup, remove_entry}
-use Rattle.std.specs.BTreeMap.{is_at, insert_entry}
-use Rattle.nw_codec.specs.declared.certificate.Certificate.{Certificate}
-use Rattle.nw_digest.specs.Order.{digest_cmp}
-use Rattle.nw_model.specs.State.{State, certificate_slot}
-use Rattle.nw_model.specs.Step.{certified_digest}
-use Rattle.nw_digest.proofs.Maps.{get_lookup, digests_total}
-use Rattle.nw_digest.proofs.Found.{absent}
-use Rattle.nw_model.proofs.Kept.{index_answers}
+use Rattle.nw_state.proofs.Words.{◌≡◌, None, refl, ap, sym, ◌∙◌, get, insert, lookup, remove_entry, is_at, insert_entry, Certificate, digest_cmp, State, certificate_slot, certified_digest, get_lookup, digests_total, absent, index_answers}
 use Rattle.nw_state.specs.StateTables.{state_of}
 use Rattle.nw_state.proofs.Puts.{taken_back, certificate_held, same_certified}
 use Rattle.nw_state.proofs.tables.StateTables.put_certificate.Goals as goal

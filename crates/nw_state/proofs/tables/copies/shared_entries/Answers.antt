@@ -1,13 +1,4 @@
-use Rattle.std.proofs.Common.{◌≡◌, ◌+◌, List, [], ◌∷◌, ◌++◌, Some, get_or, take, sym, ap, ◌∙◌, subst}
-use Rattle.std.proofs.lemmas.List.{take_all, take_more}
-use Rattle.std.proofs.lemmas.Option.{same_Some}
-use Rattle.std.specs.Option.{option_copied}
-use Rattle.std.specs.Map.{lookup}
-use Rattle.std.specs.BTreeMap.{insert_entry, is_at}
-use Rattle.std.specs.FinMap.{from_entries, same_map}
-use Rattle.nw_digest.specs.declared.digest.Digest.{Digest}
-use Rattle.nw_digest.specs.Order.{digest_cmp}
-use Rattle.nw_digest.proofs.Maps.{digests_apart, digests_total, get_lookup}
+use Rattle.nw_state.proofs.Words.{◌≡◌, ◌+◌, List, [], ◌∷◌, ◌++◌, Some, get_or, take, sym, ap, ◌∙◌, subst, take_all, take_more, same_Some, option_copied, lookup, insert_entry, is_at, from_entries, same_map, Digest, digest_cmp, digests_apart, digests_total, get_lookup}
 use Rattle.nw_state.proofs.Copied.{no_some}
 use Rattle.nw_state.proofs.Gathered.{Gathers, gathered, gathers_entry, gathers_none, gathers_skip, same_values}
 use Rattle.nw_state.proofs.tables.copies.shared_entries.Goals as goal

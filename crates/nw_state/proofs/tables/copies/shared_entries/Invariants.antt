@@ -1,8 +1,4 @@
-use Rattle.std.proofs.Common.{◌≡◌, Some, take}
-use Rattle.std.specs.Map.{lookup}
-use Rattle.std.specs.BTreeMap.{is_at}
-use Rattle.std.specs.FinMap.{from_entries}
-use Rattle.nw_digest.specs.Order.{digest_cmp}
+use Rattle.nw_state.proofs.Words.{◌≡◌, Some, take, lookup, is_at, from_entries, digest_cmp}
 use Rattle.nw_state.proofs.Gathered.{Gathers}
 use Rattle.nw_state.proofs.tables.copies.shared_entries.Given as goal
 

@@ -1,6 +1,4 @@
-use Rattle.std.proofs.Common.{◌≡◌, ◌+◌, List, [], ◌∷◌, ◌++◌, get_or, take, sym, subst}
-use Rattle.std.proofs.lemmas.List.{take_more}
-use Rattle.nw_digest.specs.declared.digest.Digest.{Digest}
+use Rattle.nw_state.proofs.Words.{◌≡◌, ◌+◌, List, [], ◌∷◌, ◌++◌, get_or, take, sym, subst, take_more, Digest}
 use Rattle.nw_state.specs.Dropping.{DropsBelow}
 use Rattle.nw_state.proofs.Dropped.{drops_none, drops_more}
 use Rattle.nw_state.proofs.tables.dropping.drop_below.Goals as goal

@@ -1,4 +1,4 @@
-use Rattle.std.proofs.Common.{take}
+use Rattle.nw_state.proofs.Words.{take}
 use Rattle.nw_state.specs.Dropping.{DropsBelow}
 use Rattle.nw_state.proofs.tables.dropping.drop_below.Given as goal
 

@@ -1,4 +1,4 @@
-use Rattle.std.proofs.Common.{subst}
+use Rattle.nw_store.proofs.Words.{subst}
 use Rattle.nw_store.specs.Settled.{Settlement, AreAllComparable}
 use Rattle.nw_store.proofs.Interleaved.{all_comparable}
 use Rattle.nw_store.proofs.settlement.Settled.history.Goals as goal

@@ -1,8 +1,6 @@
-use Rattle.std.proofs.Common.{◌≡◌, List, Some, length, refl, arith, ap, subst, sym, true≢false, ◌∙◌}
-use Rattle.std.specs.Prelude.{slice_get}
+use Rattle.nw_store.proofs.Words.{◌≡◌, List, Some, length, refl, arith, ap, subst, sym, true≢false, ◌∙◌, slice_get, Journal}
 use Rattle.std.proofs.lemmas.Option.{slice_get_read}
 use borrow.Author.Tests.{ltb-false}
-use Rattle.nw_book.specs.Journal.{Journal}
 use Rattle.nw_store.specs.Settled.{Settlement, AreAllSessions}
 use Rattle.nw_store.proofs.Ordered.{all_length}
 use Rattle.nw_store.proofs.settlement.Settled.journal.Goals as goal

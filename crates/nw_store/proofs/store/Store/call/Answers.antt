@@ -1,5 +1,4 @@
-use Rattle.nw_book.specs.Command.{committee_of}
-use Rattle.nw_book.specs.Journal.{IsHistoryOf}
+use Rattle.nw_store.proofs.Words.{committee_of, IsHistoryOf}
 use Rattle.nw_store.proofs.Explained.{explained, unanswered}
 use Rattle.nw_store.proofs.store.Store.call.Goals as goal
 

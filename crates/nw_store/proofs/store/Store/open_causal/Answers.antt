@@ -1,6 +1,5 @@
+use Rattle.nw_store.proofs.Words.{front_of, reply_of, IsHistoryOf}
 use Rattle.std.proofs.Common.{None}
-use Rattle.nw_book.specs.Answer.{front_of, reply_of}
-use Rattle.nw_book.specs.Journal.{IsHistoryOf}
 use Rattle.nw_store.proofs.Explained.{explained, unanswered}
 use Rattle.nw_store.proofs.store.Store.open_causal.Goals as goal
 

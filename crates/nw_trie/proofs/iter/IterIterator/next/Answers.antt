@@ -1,5 +1,4 @@
-use Rattle.std.proofs.Common.{◌∙◌, ◌∷◌, sym, ap, arith, length, subst}
-use Rattle.std.specs.Map.Iter.{deref_pair}
+use Rattle.nw_trie.proofs.Words.{◌∙◌, ◌∷◌, sym, ap, arith, length, subst, deref_pair}
 use Rattle.nw_trie.specs.After.{IsNextIn, entries_from}
 use Rattle.nw_trie.proofs.After.{from_after}
 use Rattle.nw_trie.proofs.iter.IterIterator.next.Goals as goal

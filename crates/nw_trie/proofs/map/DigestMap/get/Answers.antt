@@ -1,7 +1,4 @@
-use Rattle.std.proofs.Common.{◌∙◌, ap, [], get_or}
-use Rattle.std.specs.Map.{lookup}
-use Rattle.std.specs.BTreeMap.{is_at}
-use Rattle.nw_digest.specs.Order.{digest_cmp}
+use Rattle.nw_trie.proofs.Words.{◌∙◌, ap, [], get_or, lookup, is_at, digest_cmp}
 use Rattle.nw_trie.proofs.Places.{found_there, none_there}
 use Rattle.nw_trie.proofs.map.DigestMap.get.Goals as goal
 

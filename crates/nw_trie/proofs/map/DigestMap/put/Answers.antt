@@ -1,8 +1,6 @@
-use Rattle.std.proofs.Common.{◌≡◌, ◌∙◌, ℕ, ◌+◌, ◌^◌, ◌<◌, Bool, true, false, Option, Some, None, ap, arith, is_some, length, refl, subst, sym}
+use Rattle.nw_trie.proofs.Words.{◌≡◌, ◌∙◌, ℕ, ◌+◌, ◌^◌, ◌<◌, Bool, true, false, Option, Some, None, ap, arith, length, refl, subst, sym, lookup, is_at, digest_cmp}
+use Rattle.std.proofs.Common.{is_some}
 use Rattle.std.specs.Prelude.{◌↔◌, IsTrue}
-use Rattle.std.specs.Map.{lookup}
-use Rattle.std.specs.BTreeMap.{is_at}
-use Rattle.nw_digest.specs.Order.{digest_cmp}
 use Rattle.nw_trie.specs.Places.{joined}
 use Rattle.nw_trie.proofs.map.DigestMap.put.Goals as goal
 

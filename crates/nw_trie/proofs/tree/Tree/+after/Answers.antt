@@ -1,4 +1,4 @@
-use Rattle.std.proofs.Common.{◌∙◌, sym, arith}
+use Rattle.nw_trie.proofs.Words.{◌∙◌, sym, arith}
 use Rattle.nw_trie.proofs.Sides.{at_Fork}
 use Rattle.nw_trie.proofs.Grafts.{key_left, key_right, sides_shorter}
 use Rattle.nw_trie.proofs.After.{after_left, after_none, after_right}

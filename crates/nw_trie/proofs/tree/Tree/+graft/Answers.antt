@@ -1,6 +1,4 @@
-use Rattle.std.proofs.Common.{◌∙◌, refl, sym, ap, length, arith, subst}
-use Rattle.std.specs.BTreeMap.{insert_entry}
-use Rattle.nw_digest.specs.Order.{digest_cmp}
+use Rattle.nw_trie.proofs.Words.{◌∙◌, refl, sym, ap, length, arith, subst, insert_entry, digest_cmp}
 use Rattle.nw_trie.specs.Entries.{BranchesAt}
 use Rattle.nw_trie.proofs.Sides.{at_Fork}
 use Rattle.nw_trie.proofs.Grafts.{differ_alone, down_side, each_differ, fits_branch, grown_side}

@@ -1,4 +1,4 @@
-use Rattle.std.proofs.Common.{◌∙◌, sym}
+use Rattle.nw_trie.proofs.Words.{◌∙◌, sym}
 use Rattle.nw_trie.proofs.Sides.{at_Fork, lookup_left, lookup_right}
 use Rattle.nw_trie.proofs.Removals.{shrunk_left, shrunk_right}
 use Rattle.nw_trie.proofs.tree.Tree.+remove.Goals as goal

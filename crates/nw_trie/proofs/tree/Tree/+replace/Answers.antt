@@ -1,4 +1,4 @@
-use Rattle.std.proofs.Common.{◌∙◌, Some, sym, ap, arith}
+use Rattle.nw_trie.proofs.Words.{◌∙◌, Some, sym, ap, arith}
 use Rattle.nw_trie.proofs.Sides.{at_Fork, lookup_left, lookup_right}
 use Rattle.nw_trie.proofs.Grafts.{fits_key, grown_left, grown_right, key_left, key_right, at_leaf, sides_shorter}
 use Rattle.nw_trie.proofs.tree.Tree.+replace.Goals as goal

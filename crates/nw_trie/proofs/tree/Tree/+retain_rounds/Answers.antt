@@ -1,4 +1,4 @@
-use Rattle.std.proofs.Common.{◌∙◌}
+use Rattle.nw_trie.proofs.Words.{◌∙◌}
 use Rattle.nw_trie.proofs.Sides.{at_Fork}
 use Rattle.nw_trie.proofs.Removals.{shrunk_both}
 use Rattle.nw_trie.proofs.tree.Tree.+retain_rounds.Goals as goal

@@ -1,5 +1,4 @@
-use Rattle.std.proofs.Common.{◌∙◌, sym, ap, subst, arith, length}
-use Rattle.std.specs.Option.{MatchOption}
+use Rattle.nw_trie.proofs.Words.{◌∙◌, sym, ap, subst, arith, length, MatchOption}
 use Rattle.nw_trie.specs.Entries.{BranchesAt, HasKey}
 use Rattle.nw_trie.proofs.Sides.{at_Fork, at_Leaf, branch_left, branch_right}
 use Rattle.nw_trie.proofs.Grafts.{branch_leaf}

@@ -1,5 +1,4 @@
-use Rattle.std.proofs.Common.{◌<◌, length, Option, ℕ}
-use Rattle.std.specs.Option.{MatchOption}
+use Rattle.nw_trie.proofs.Words.{◌<◌, length, Option, ℕ, MatchOption}
 use Rattle.nw_trie.specs.Entries.{BranchesAt, HasKey}
 use Rattle.nw_trie.proofs.tree.Tree.branch.Given as goal
 

@@ -1,4 +1,4 @@
-use Rattle.std.proofs.Common.{◌∙◌, sym, ap}
+use Rattle.nw_trie.proofs.Words.{◌∙◌, sym, ap}
 use Rattle.nw_trie.specs.After.{first_entry}
 use Rattle.nw_trie.proofs.Splits.{none_there, tree_entries}
 use Rattle.nw_trie.proofs.tree.Tree.first.Goals as goal

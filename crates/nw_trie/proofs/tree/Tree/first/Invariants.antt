@@ -1,4 +1,4 @@
-use Rattle.std.proofs.Common.{◌≡◌, length}
+use Rattle.nw_trie.proofs.Words.{◌≡◌, length}
 use Rattle.nw_trie.specs.After.{first_entry}
 use Rattle.nw_trie.proofs.tree.Tree.first.Given as goal
 

@@ -1,4 +1,4 @@
-use Rattle.std.proofs.Common.{refl, arith}
+use Rattle.nw_trie.proofs.Words.{refl, arith}
 use Rattle.nw_trie.proofs.Sides.{at_Fork}
 use Rattle.nw_trie.proofs.tree.Tree.first_bit.Goals as goal
 

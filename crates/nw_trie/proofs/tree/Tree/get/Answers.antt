@@ -1,13 +1,8 @@
-use Rattle.std.proofs.Common.{Bor, ◌≡◌, ◌∙◌, Bool, true, false, sym, ap, Some, None, cond}
+use Rattle.nw_trie.proofs.Words.{Bor, ◌≡◌, ◌∙◌, Bool, true, false, sym, ap, Some, None, cond, option_copied, lookup, is_at, Digest, digest_cmp}
 use Rattle.std.specs.Bool.{then_some}
 use Rattle.std.specs.Str.{bytes_eq}
 use Rattle.std.proofs.lemmas.Slice.Eq.{bytes_eq-Decides}
 use mathlib.Core.Bool.{true≢false}
-use Rattle.std.specs.Option.{option_copied}
-use Rattle.std.specs.Map.{lookup}
-use Rattle.std.specs.BTreeMap.{is_at}
-use Rattle.nw_digest.specs.declared.digest.Digest.{Digest}
-use Rattle.nw_digest.specs.Order.{digest_cmp}
 use Rattle.nw_trie.proofs.DigestBits.{digest_of_bytes, one_digest}
 use Rattle.nw_trie.proofs.Sides.{at_Fork, at_Leaf, lookup_left, lookup_right, unlike}
 use Rattle.nw_trie.proofs.After.{here}

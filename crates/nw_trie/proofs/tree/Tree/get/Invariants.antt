@@ -1,7 +1,4 @@
-use Rattle.std.proofs.Common.{◌≡◌, length}
-use Rattle.std.specs.Map.{lookup}
-use Rattle.std.specs.BTreeMap.{is_at}
-use Rattle.nw_digest.specs.Order.{digest_cmp}
+use Rattle.nw_trie.proofs.Words.{◌≡◌, length, lookup, is_at, digest_cmp}
 use Rattle.nw_trie.proofs.tree.Tree.get.Given as goal
 
 abbrev pub invariant-loop-tree : goal.invariant-loop-tree

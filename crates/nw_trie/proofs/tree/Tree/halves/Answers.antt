@@ -1,4 +1,4 @@
-use Rattle.std.proofs.Common.{◌∙◌, ◌≡◌, true, false, sym, ap, subst}
+use Rattle.nw_trie.proofs.Words.{◌∙◌, ◌≡◌, true, false, sym, ap, subst}
 use Rattle.nw_trie.specs.Bits.{bit_of}
 use Rattle.nw_trie.specs.Entries.{EachKey}
 use Rattle.nw_trie.specs.Tree.{entries_of}

@@ -1,4 +1,4 @@
-use Rattle.std.proofs.Common.{refl, sym}
+use Rattle.nw_trie.proofs.Words.{refl, sym}
 use Rattle.nw_trie.proofs.Splits.{absent_branch}
 use Rattle.nw_trie.proofs.tree.Tree.insert.Goals as goal
 

@@ -1,4 +1,4 @@
-use Rattle.std.proofs.Common.{◌∙◌, refl, ap}
+use Rattle.nw_trie.proofs.Words.{◌∙◌, refl, ap}
 use Rattle.nw_trie.proofs.Grafts.{at_leaf}
 use Rattle.nw_trie.proofs.tree.Tree.only_value_mut.Goals as goal
 

@@ -1,4 +1,4 @@
-use Rattle.std.proofs.Common.{◌∙◌, refl, sym, ap}
+use Rattle.nw_trie.proofs.Words.{◌∙◌, refl, sym, ap}
 use Rattle.nw_trie.specs.Bits.{bit_of}
 use Rattle.nw_trie.proofs.Sides.{at_Fork}
 use Rattle.nw_trie.proofs.Grafts.{fits_key, grown_side}

@@ -1,4 +1,4 @@
-use Rattle.std.proofs.Common.{◌∙◌, ◌++◌, sym, ap, length, arith, length-append}
+use Rattle.nw_trie.proofs.Words.{◌∙◌, ◌++◌, sym, ap, length, arith, length-append}
 use Rattle.nw_trie.proofs.Splits.{tree_entries, fork_after, fork_before, entries_after, entries_before, after_all, before_all}
 use Rattle.nw_trie.proofs.tree.Tree.split.Goals as goal
 use Rattle.nw_trie.proofs.tree.Tree.split.Goals.{then-is_set, else-is_set}

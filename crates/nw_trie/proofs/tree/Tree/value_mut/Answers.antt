@@ -1,4 +1,4 @@
-use Rattle.std.proofs.Common.{refl}
+use Rattle.nw_trie.proofs.Words.{refl}
 use Rattle.nw_trie.proofs.Splits.{tree_entries}
 use Rattle.nw_trie.proofs.Descents.{length_replaced}
 use Rattle.nw_trie.proofs.tree.Tree.value_mut.Goals as goal

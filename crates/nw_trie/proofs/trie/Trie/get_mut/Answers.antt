@@ -1,5 +1,4 @@
-use Rattle.std.proofs.Common.{◌∙◌, sym, ap}
-use Rattle.std.specs.Prelude.{is_some}
+use Rattle.nw_trie.proofs.Words.{◌∙◌, sym, ap, is_some}
 use Rattle.nw_trie.proofs.Descents.{copied_some, has_found}
 use Rattle.nw_trie.proofs.trie.Trie.get_mut.Goals as goal
 

@@ -1,4 +1,4 @@
-use Rattle.std.proofs.Common.{◌≡◌, ◌+◌, ap, length, arith}
+use Rattle.nw_trie.proofs.Words.{◌≡◌, ◌+◌, ap, length, arith}
 use Rattle.nw_trie.proofs.Removals.{removed}
 use Rattle.nw_trie.proofs.trie.Trie.remove.Goals as goal
 

@@ -1,5 +1,4 @@
-use Rattle.std.proofs.Common.{◌∙◌, ap, cond, refl, subst, sym}
-use Rattle.std.specs.FinSet.{insert}
+use Rattle.nw_waiting.proofs.Words.{◌∙◌, ap, cond, refl, subst, sym, insert}
 use Rattle.nw_waiting.specs.Parted.{IsMetForAll, parted}
 use Rattle.nw_waiting.proofs.Parted.{held_back, held_more, held_put, met_more, others_kept, others_put, others_same_state, taken_back, unmet_put}
 use Rattle.nw_waiting.proofs.parents.MissingParents.add.Goals as goal

@@ -1,4 +1,4 @@
-use Rattle.std.proofs.Common.{sym, subst}
+use Rattle.nw_waiting.proofs.Words.{sym, subst}
 use Rattle.nw_waiting.specs.Pairs.{AreWanted}
 use Rattle.nw_waiting.proofs.Parted.{unmet_wanted}
 use Rattle.nw_waiting.proofs.parents.MissingParents.count.Goals as goal

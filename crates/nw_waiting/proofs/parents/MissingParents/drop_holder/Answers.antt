@@ -1,9 +1,7 @@
-use Rattle.std.proofs.Common.{◌≡◌, ◌∙◌, ◌+◌, ◌<◌, ◌∷◌, ℕ, List, add-one, ap, drop, drop-cons, get_or, length, refl, suc, sym, subst, arith}
-use Rattle.std.proofs.lemmas.Grind.{common_steps}
+use Rattle.nw_waiting.proofs.Words.{◌≡◌, ◌∙◌, ◌+◌, ◌<◌, ◌∷◌, ℕ, List, ap, drop, get_or, length, refl, sym, subst, arith, common_steps, Digest, Wanted}
+use Rattle.std.proofs.Common.{add-one, drop-cons, suc}
 use Rattle.std.proofs.lemmas.Bool.{true≢false}
 use Rattle.std.proofs.Math.ListN.{drop_of_length-le}
-use Rattle.nw_digest.specs.declared.digest.Digest.{Digest}
-use Rattle.nw_model.specs.declared.wanted.Wanted.{Wanted}
 use Rattle.nw_waiting.specs.Pairs.{AreMissing, Lacks, without_holder}
 use Rattle.nw_waiting.specs.Parted.{HaveHolders, parted}
 use Rattle.nw_waiting.proofs.Parted.{AreLeft, left_first, left_last, left_unwanted, left_wanted, left_unmet}

@@ -1,4 +1,4 @@
-use Rattle.std.proofs.Common.{◌≡◌, drop}
+use Rattle.nw_waiting.proofs.Words.{◌≡◌, drop}
 use Rattle.nw_waiting.proofs.Parted.{AreLeft}
 use Rattle.nw_waiting.proofs.parents.MissingParents.drop_holder.Given as goal
 

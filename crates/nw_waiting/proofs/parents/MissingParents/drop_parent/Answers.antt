@@ -1,4 +1,4 @@
-use Rattle.std.proofs.Common.{◌∙◌, ap}
+use Rattle.nw_waiting.proofs.Words.{◌∙◌, ap}
 use Rattle.nw_waiting.specs.Pairs.{without_wanted}
 use Rattle.nw_waiting.proofs.Parted.{held_satisfied, satisfied}
 use Rattle.nw_waiting.proofs.parents.MissingParents.drop_parent.Goals as goal

@@ -1,4 +1,4 @@
-use Rattle.std.proofs.Common.{◌∙◌, ap, subst, take}
+use Rattle.nw_waiting.proofs.Words.{◌∙◌, ap, subst, take}
 use Rattle.nw_waiting.specs.Pairs.{AreWanted}
 use Rattle.nw_waiting.proofs.Parted.{unmet_wanted}
 use Rattle.nw_waiting.proofs.parents.MissingParents.first_unmet.Goals as goal

@@ -1,4 +1,4 @@
-use Rattle.std.proofs.Common.{◌∙◌, ap, refl}
+use Rattle.nw_waiting.proofs.Words.{◌∙◌, ap, refl}
 use Rattle.nw_waiting.specs.Pairs.{without_wanted}
 use Rattle.nw_waiting.proofs.Parted.{held_taken, taken}
 use Rattle.nw_waiting.proofs.parents.MissingParents.meet.Goals as goal

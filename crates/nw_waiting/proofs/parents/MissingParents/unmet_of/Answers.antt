@@ -1,10 +1,8 @@
-use Rattle.std.proofs.Common.{◌≡◌, ◌∙◌, ◌++◌, ◌∷◌, [], ap, cond, subst, sym}
-use Rattle.std.specs.Prelude.{IsPermutation, filter}
+use Rattle.nw_waiting.proofs.Words.{◌≡◌, ◌∙◌, ◌++◌, ◌∷◌, [], ap, cond, subst, sym, filter, ListsExactly, wanted_cmp}
 use Rattle.std.proofs.lemmas.List.{take_all}
-use Rattle.nw_model.specs.Missing.{ListsExactly, wanted_cmp}
 use Rattle.nw_waiting.specs.Pairs.{Lacks}
-use Rattle.nw_waiting.specs.Parted.{is_one}
-use Rattle.nw_waiting.proofs.UnmetOf.{next_unmet, unmet_sorted}
+use Rattle.nw_waiting.specs.Parted.{is_one, parted}
+use Rattle.nw_waiting.proofs.UnmetOf.{next_unmet, unmet_among}
 use Rattle.nw_waiting.proofs.parents.MissingParents.unmet_of.Goals as goal
 use Rattle.nw_waiting.proofs.parents.MissingParents.unmet_of.Goals.{then-contains+in_ok-push, else-contains}
 
@@ -23,7 +21,6 @@ pub returns : goal.returns
 returns g c =
     let keys = c.self.inside.unmet.keys in
     let missing = c.missing_of-wanted-items.result.now in
-    let new = c.sort_unstable.new.self.items in
     let whole = c.loop-wanted.invariant ∙ ap (filter (is_one keys)) (take_all c.loop-wanted.wanted-index missing c.loop-wanted-test.false) in
-    subst (λ s. ListsExactly wanted_cmp (Lacks s.unmet c.args.holder) new) c.self.view_is
-    (unmet_sorted c.self.inside.lacking keys c.args.holder missing new c.missing_of-wanted-items.ensures (subst (λ xs. IsPermutation xs new) whole c.sort_unstable.ensures.permutation) c.sort_unstable.ensures.sorted)
+    subst (λ s. ListsExactly wanted_cmp (Lacks s.unmet c.args.holder) c.loop-wanted.unmet.items) c.self.view_is
+    (subst (ListsExactly wanted_cmp (Lacks (parted c.self.inside.lacking keys).unmet c.args.holder)) (sym whole) (unmet_among c.self.inside.lacking keys c.args.holder missing c.missing_of-wanted-items.ensures))

@@ -1,5 +1,4 @@
-use Rattle.std.proofs.Common.{◌≡◌, take}
-use Rattle.std.specs.Prelude.{filter}
+use Rattle.nw_waiting.proofs.Words.{◌≡◌, take, filter}
 use Rattle.nw_waiting.specs.Parted.{is_one}
 use Rattle.nw_waiting.proofs.parents.MissingParents.unmet_of.Given as goal
 

@@ -1,5 +1,4 @@
-use Rattle.std.proofs.Common.{◌∙◌, sym}
-use Rattle.std.specs.BTreeMap.{keys}
+use Rattle.nw_waiting.proofs.Words.{◌∙◌, sym, keys}
 use Rattle.std.proofs.lemmas.Map.Entries.{length-keys_of}
 use Rattle.nw_waiting.proofs.Changes.{wanted_of}
 use Rattle.nw_waiting.proofs.waiting.Waiting.count.Goals as goal

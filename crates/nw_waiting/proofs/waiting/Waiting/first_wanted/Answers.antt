@@ -1,5 +1,4 @@
-use Rattle.std.proofs.Common.{◌∙◌, ap, take}
-use Rattle.std.specs.BTreeMap.{keys}
+use Rattle.nw_waiting.proofs.Words.{◌∙◌, ap, take, keys}
 use Rattle.nw_waiting.proofs.Changes.{wanted_of}
 use Rattle.nw_waiting.proofs.waiting.Waiting.first_wanted.Goals as goal
 

@@ -1,6 +1,5 @@
-use Rattle.std.proofs.Common.{◌∙◌, sym}
+use Rattle.nw_waiting.proofs.Words.{◌∙◌, sym, wanted_apart, wanted_total}
 use Rattle.std.proofs.lemmas.Map.Views.{btree_map_contains_key_iff}
-use Rattle.nw_model.proofs.WantedOrder.{wanted_apart, wanted_total}
 use Rattle.nw_waiting.proofs.Changes.{wanted_of}
 use Rattle.nw_waiting.proofs.waiting.Waiting.is_wanted.Goals as goal
 

@@ -1,4 +1,4 @@
-use Rattle.std.proofs.Common.{◌∙◌, [], ap, sym}
+use Rattle.nw_waiting.proofs.Words.{◌∙◌, [], ap, sym}
 use Rattle.nw_waiting.specs.Lists.{list_of}
 use Rattle.nw_waiting.proofs.Changes.{missing_of, unwanted, unwanted_view}
 use Rattle.nw_waiting.proofs.Members.{and_true}
@@ -17,7 +17,7 @@ pub invariant_of-self-2 : goal.invariant_of-self-2
 invariant_of-self-2 g c =
     unwanted (λ v. v.items) (λ v. v.items) c.self.inside.holders.entries c.self.inside.missing.entries c.self.invariant c.args.self.now c.self.view_is c.remove_from_each.new.lists.entries c.remove.new.self.entries c.args.holder
     c.deref.result.now (c.deref.ensures.value ∙ ap (list_of (λ v. v.items)) (sym c.in-Some.is ∙ c.remove.ensures.value)) c.remove_from_each.ensures.removed (λ q. c.remove.ensures.updates.0 q)
-    (c.remove_from_each.ensures.once c.self.invariant.holders_once) (c.remove_from_each.ensures.filled c.self.invariant.filled) (c.remove_from_each.ensures.ordered c.self.invariant.ordered)
+    c.remove_from_each.ensures.once (c.remove_from_each.ensures.filled c.self.invariant.filled) (c.remove_from_each.ensures.ordered c.self.invariant.ordered)
 
 pub returns-clause-missing : goal.returns-clause-missing
 returns-clause-missing g c =

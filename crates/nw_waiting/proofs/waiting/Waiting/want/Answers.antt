@@ -1,29 +1,27 @@
-use Rattle.std.proofs.Common.{◌≡◌, ◌∙◌, ◌∷◌, ◌++◌, [], ap, arith, refl, sym}
-use Rattle.std.specs.BTreeMap.{get}
-use Rattle.std.specs.List.{list_any}
-use Rattle.std.specs.Ordering.{eq_by_cmp}
-use Rattle.std.proofs.lemmas.Grind.{common_steps}
-use Rattle.nw_digest.specs.Order.{digest_cmp}
+use Rattle.nw_waiting.proofs.Words.{◌≡◌, ◌∙◌, ap, arith, refl, sym, subst, cond, length, get, list_any, eq_by_cmp, common_steps, digest_cmp, digests_total, wanted_cmp, wanted_total}
+use Rattle.std.proofs.Common.{◌≤◌}
+use Rattle.std.specs.List.{insert}
+use Rattle.std.specs.List.Sorted.{IsStrictlySortedBy}
+use Rattle.nw_waiting.proofs.Ascending.{IsPlace, absent, any_put, ascends, found, rises}
 use Rattle.nw_waiting.specs.Lists.{list_of}
 use Rattle.nw_waiting.proofs.Changes.{added, added_view, kept, kept_view, missing_member}
-use Rattle.nw_waiting.proofs.Members.{rewritten, written}
-use Rattle.nw_digest.proofs.Maps.{digests_total}
+use Rattle.nw_waiting.proofs.Members.{placed, rewritten}
 use Rattle.nw_waiting.proofs.Relation.{insert_same, on_err}
 use Rattle.nw_waiting.proofs.waiting.Waiting.want.Goals as goal
-use Rattle.nw_model.specs.Missing.{wanted_cmp}
 
-pub invariant_of-self-then-has : goal.invariant_of-self-then-has
-invariant_of-self-then-has g c =
+pub invariant_of-self-in_default : goal.invariant_of-self-in_default
+invariant_of-self-in_default g c =
     let was : c.or_insert-missing.result.now.items ≡ list_of (λ v. v.items) (get digest_cmp c.self.inside.missing c.args.holder) = grind (arith, common_steps) in
     kept (λ v. v.items) (λ v. v.items) c.self.inside.holders.entries c.self.inside.missing.entries c.self.invariant c.args.self.now c.self.view_is c.self.inside.holders.entries _ (λ w. refl)
     (rewritten digests_total (λ v. v.items) c.self.inside.missing.entries _ c.args.holder c.or_insert-missing.result.now (λ q. grind (arith, c.in_ok-self-inside.ensures.update.0 c.or_insert-missing.result.now)) was)
     c.self.invariant.filled c.self.invariant.ordered
 
-pub returns-then-has-clause-added : goal.returns-then-has-clause-added
-returns-then-has-clause-added g c =
+pub returns-in_default-clause-added : goal.returns-in_default-clause-added
+returns-in_default-clause-added g c =
     let was : c.or_insert-missing.result.now.items ≡ list_of (λ v. v.items) (get digest_cmp c.self.inside.missing c.args.holder) = grind (arith, common_steps) in
+    let here = found wanted_total c.args.wanted c.deref.result.now c.in_default.field-0 c.in_default.ensures.bound c.in_default.ensures.ok in
     c.self.view_is ∙ insert_same c.args.self.now c.args.wanted c.args.holder (sym (missing_member (λ v. v.items) (λ v. v.items) c.self.inside.holders.entries c.self.inside.missing.entries c.self.invariant c.args.self.now c.self.view_is c.args.wanted c.args.holder)
-    ∙ ap (list_any (eq_by_cmp wanted_cmp c.args.wanted)) (sym (c.deref.ensures.value ∙ was)) ∙ sym c.has.ensures ∙ c.if-has.true)
+    ∙ ap (list_any (eq_by_cmp wanted_cmp c.args.wanted)) (sym (c.deref.ensures.value ∙ was)) ∙ here)
 
 pub invariant_of-self-in_err-make_room : goal.invariant_of-self-in_err-make_room
 invariant_of-self-in_err-make_room g c =
@@ -45,15 +43,27 @@ returns-in_err-add-clause-unchanged g c =
 
 pub invariant_of-self-2 : goal.invariant_of-self-2
 invariant_of-self-2 g c =
-    let was : c.or_insert-missing.result.now.items ≡ list_of (λ v. v.items) (get digest_cmp c.self.inside.missing c.args.holder) = grind (arith, common_steps) in
+    let xs = list_of (λ v. v.items) (get digest_cmp c.self.inside.missing c.args.holder) in
+    let was : c.or_insert-missing.result.now.items ≡ xs = grind (arith, common_steps) in
+    let whole = c.deref.ensures.value ∙ was in
+    let ascending = c.self.invariant.missing_ascends c.args.holder in
+    let place = subst (λ ys. IsPlace wanted_total c.args.wanted ys c.in-Err.place) whole (c.in-Err.ensures.position (rises wanted_total c.args.wanted c.deref.result.now (subst (IsStrictlySortedBy wanted_cmp) (sym whole) ascending))) in
+    let within = subst (λ ys. c.in-Err.place ≤ length ys) whole c.in-Err.ensures.bound in
+    let put : c.insert-inserted.new.self.items ≡ insert xs c.in-Err.place c.args.wanted =
+    c.insert-inserted.ensures.items ∙ ap (λ b. cond b (insert c.make_room.new.list.items c.in-Err.place c.args.wanted) c.make_room.new.list.items) (c.insert-inserted.ensures.succeeds c.in_ok-make_room.ensures.room)
+    ∙ ap (λ ys. insert ys c.in-Err.place c.args.wanted) (c.in_ok-make_room.ensures.items ∙ was) in
     added (λ v. v.items) (λ v. v.items) c.self.inside.holders.entries c.self.inside.missing.entries c.self.invariant c.args.self.now c.self.view_is c.add.new.lists.entries _ c.args.wanted c.args.holder
-    (ap (list_any (eq_by_cmp wanted_cmp c.args.wanted)) (sym (c.deref.ensures.value ∙ was)) ∙ sym c.has.ensures ∙ c.if-has.false) c.in_ok-add.ensures.added
-    (written digests_total (λ v. v.items) c.self.inside.missing.entries _ c.args.holder c.push_reserved.new.self (λ q. grind (arith, c.in_ok-self-inside.ensures.update.0 c.push_reserved.new.self)) (λ xs. xs ++ c.args.wanted ∷ [])
-    (c.push_reserved.ensures.items ∙ ap (λ xs. xs ++ c.args.wanted ∷ []) (c.in_ok-make_room.ensures.items ∙ was)))
+    (absent wanted_total c.args.wanted xs c.in-Err.place place) c.in_ok-add.ensures.added
+    c.insert-inserted.new.self.items (λ w. ap (list_any (eq_by_cmp wanted_cmp w)) put ∙ any_put wanted_total c.args.wanted (eq_by_cmp wanted_cmp w) xs c.in-Err.place)
+    (subst (IsStrictlySortedBy wanted_cmp) (sym put) (ascends wanted_total c.args.wanted xs c.in-Err.place within place ascending))
+    (placed digests_total (λ v. v.items) c.self.inside.missing.entries _ c.args.holder c.insert-inserted.new.self (λ q. grind (arith, c.in_ok-self-inside.ensures.update.0 c.insert-inserted.new.self)))
     (c.add.ensures.filled c.self.invariant.filled) c.add.ensures.ordered
 
 pub returns-clause-added : goal.returns-clause-added
 returns-clause-added g c =
-    let was : c.or_insert-missing.result.now.items ≡ list_of (λ v. v.items) (get digest_cmp c.self.inside.missing c.args.holder) = grind (arith, common_steps) in
+    let xs = list_of (λ v. v.items) (get digest_cmp c.self.inside.missing c.args.holder) in
+    let was : c.or_insert-missing.result.now.items ≡ xs = grind (arith, common_steps) in
+    let whole = c.deref.ensures.value ∙ was in
+    let place = subst (λ ys. IsPlace wanted_total c.args.wanted ys c.in-Err.place) whole (c.in-Err.ensures.position (rises wanted_total c.args.wanted c.deref.result.now (subst (IsStrictlySortedBy wanted_cmp) (sym whole) (c.self.invariant.missing_ascends c.args.holder)))) in
     added_view (λ v. v.items) (λ v. v.items) c.self.inside.holders.entries c.self.inside.missing.entries c.self.invariant c.args.self.now c.self.view_is c.add.new.lists.entries c.self.inside.missing.entries c.args.wanted c.args.holder
-    (ap (list_any (eq_by_cmp wanted_cmp c.args.wanted)) (sym (c.deref.ensures.value ∙ was)) ∙ sym c.has.ensures ∙ c.if-has.false) c.in_ok-add.ensures.added c.add.ensures.ordered
+    (absent wanted_total c.args.wanted xs c.in-Err.place place) c.in_ok-add.ensures.added c.add.ensures.ordered

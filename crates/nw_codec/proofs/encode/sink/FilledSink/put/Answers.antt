@@ -1,4 +1,5 @@
-use Rattle.std.proofs.Common.{◌+◌, ◌-◌, ◌++◌, length, refl, ap, ◌∙◌, arith}
+use Rattle.nw_codec.proofs.Words.{◌+◌, ◌++◌, length, refl, ap, ◌∙◌, arith}
+use Rattle.std.proofs.Common.{◌-◌}
 use Rattle.std.proofs.lemmas.Slice.{take-put_mid, drop-put_mid}
 use Rattle.nw_codec.proofs.Placed.{same_behind}
 use Rattle.nw_codec.proofs.encode.sink.FilledSink.put.Goals as goal

@@ -1,4 +1,4 @@
-use Rattle.std.proofs.Common.{arith, subst}
+use Rattle.nw_trie.proofs.Words.{arith, subst}
 use Rattle.nw_trie.specs.Entries.{EachKey}
 use Rattle.nw_trie.proofs.Descents.{parted_late}
 use Rattle.nw_trie.proofs.tree.descent.EndWay.value_mut.Goals as goal

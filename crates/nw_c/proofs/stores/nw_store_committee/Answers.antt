@@ -1,0 +1,11 @@
+use Rattle.std.proofs.Common.{ap, inr, rules, sym, ◌∙◌}
+use Rattle.nw_c.proofs.stores.nw_store_committee.Goals as goal
+
+pub returns-in-Err-clause-code : goal.returns-in-Err-clause-code
+returns-in-Err-clause-code c = inr (search rules, inr (search rules, inr ((c.in-Store.held, ap (λ h. h.value) (sym c.is_open.ensures.same) ∙ sym c.lend.ensures.value ∙ c.in-Store.is), search rules)))
+
+pub returns-in-Ok-try_clone-clause-code : goal.returns-in-Ok-try_clone-clause-code
+returns-in-Ok-try_clone-clause-code c = inr (search rules, inr (search rules, inr ((c.in-Store.held, ap (λ h. h.value) (sym c.is_open.ensures.same) ∙ sym c.lend.ensures.value ∙ c.in-Store.is), search rules)))
+
+pub returns-clause-code : goal.returns-clause-code
+returns-clause-code c = inr (search rules, inr (search rules, inr ((c.in-Store.held, ap (λ h. h.value) (sym c.is_open.ensures.same) ∙ sym c.lend.ensures.value ∙ c.in-Store.is), search rules)))

@@ -1,0 +1,15 @@
+use Rattle.nw_shared_store.specs.Rule.{Counts, freed}
+use Rattle.nw_shared_store.proofs.Steps.{counts}
+use Rattle.nw_shared_store.proofs.Seated.{may_end}
+use Rattle.nw_shared_store.proofs.lock.end_counting.Goals as goal
+
+pub store-requires : goal.store-requires
+store-requires g c =
+    let lock = c.args.lock.now.shared in
+    let slots = lock.table_id.slots in
+    let seat = c.args.seat.now in
+    let t = c.requires.same in
+    may_end g.S.Scheme.accepts lock.key slots seat.id Counts _ seat.me c.requires.lock.same c.requires.lock.words t.1 (counts g.S.Scheme.accepts lock.key slots seat.id t.0 (freed seat.me.0))
+
+pub returns-clause-counted : goal.returns-clause-counted
+returns-clause-counted g c = c.store.ensures.2.1

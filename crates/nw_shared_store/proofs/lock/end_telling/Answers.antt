@@ -1,0 +1,15 @@
+use Rattle.nw_shared_store.specs.Rule.{Tells, freed}
+use Rattle.nw_shared_store.proofs.Steps.{tells}
+use Rattle.nw_shared_store.proofs.Seated.{may_end}
+use Rattle.nw_shared_store.proofs.lock.end_telling.Goals as goal
+
+pub store-requires : goal.store-requires
+store-requires g c =
+    let lock = c.args.lock.now.shared in
+    let slots = lock.table_id.slots in
+    let seat = c.args.seat.now in
+    let t = c.requires.same in
+    may_end g.S.Scheme.accepts lock.key slots seat.id Tells _ seat.me c.requires.lock.same c.requires.lock.words t.1 (tells g.S.Scheme.accepts lock.key slots seat.id t.0 (freed seat.me.0) t.2)
+
+pub returns-clause-told : goal.returns-clause-told
+returns-clause-told g c = c.store.ensures.2.1
