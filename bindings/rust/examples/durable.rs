@@ -106,7 +106,7 @@ fn validator(path: &Path, mode: &str) -> Result<()> {
     let Opened { log, records, .. } = opened;
     let store = Store::new(&committee, limits)?;
     let mut validator = Validator {
-        flow: Flow::over(&store, store.session()?),
+        flow: Flow::over(&store, store.session()?, 0),
         log,
         is_late: mode == "late-sync",
         committee,
@@ -177,7 +177,7 @@ impl Validator {
             let is_kept = |message: &[u8]| Peek::of(message).map(|of| of.round()) >= Some(round);
             self.log.cut(record, is_kept)?;
         } else {
-            self.log.append(&[record])?;
+            self.log.append(record);
             self.log.sync()?;
         }
         if !self.is_late {

@@ -65,7 +65,7 @@ impl Node {
     pub fn new(me: u16, committee: &Committee) -> Outcome<Node> {
         let store = Store::new(committee, LIMITS)?;
         let (session, reader, mut page) = (store.session()?, store.session()?, store.session()?);
-        let flow = Flow::over(&store, reader);
+        let flow = Flow::over(&store, reader, me);
         Ok(Node {
             me,
             decider: Decider::new(MEMBERS),

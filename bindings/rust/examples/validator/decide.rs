@@ -5,14 +5,14 @@
 
 use crate::node::Result;
 use narwhal_store::{Digest, Session, Subject};
-use narwhal_validator::{Checkpoint, Flow};
+use narwhal_validator::Flow;
 
 /// How far the garbage round stays behind the last leader.
 pub const LAG: u64 = 8;
 
-/// The leader to deliver after a checkpoint, if it is decided.
-pub fn next_leader(flow: &mut Flow, members: u16, last: &Checkpoint) -> Result<Option<Subject>> {
-    let next = last.leader.round + 2;
+/// The next leader to deliver, if it is decided.
+pub fn next_leader(flow: &mut Flow, members: u16) -> Result<Option<Subject>> {
+    let next = flow.checkpoint().leader.round + 2;
     for round in (next..flow.newest()).step_by(2) {
         let Some(leader) = leader_of(flow.session(), members, round) else {
             continue;

@@ -32,7 +32,6 @@ const TICK: Duration = Duration::from_millis(100);
 const WAITING: usize = 4_096;
 /// The longest packet.
 const LONGEST: usize = 1 << 21;
-const WINDOW: u32 = 64;
 
 fn main() -> Result<()> {
     let arguments: Vec<String> = env::args().skip(1).collect();
@@ -51,15 +50,14 @@ fn run(folder: &str, me: u16, addresses: &[&str], is_lost: bool) -> Result<()> {
     let com = lab::Com::new(addresses.len() as u16);
     let committee = com.committee.clone();
     let limits = Limits {
-        window: WINDOW,
+        window: 64,
         ..Limits::default()
     };
     let sign = Box::new(move |text: &[u8]| com.sign(me, text));
     let mut node = Node::open(&committee, me, limits, log, is_lost, sign)?;
     let listener = TcpListener::bind(addresses[usize::from(me)])?;
     let (inbox, received) = channel();
-    let heard = inbox.clone();
-    thread::spawn(move || listen(&listener, &heard));
+    thread::spawn(move || listen(&listener, &inbox));
     let peers: Vec<_> = addresses.iter().map(|to| connect(me, to)).collect();
     let (parent, mut ticked) = (parent_id(), Instant::now());
     while parent_id() == parent {
@@ -71,10 +69,7 @@ fn run(folder: &str, me: u16, addresses: &[&str], is_lost: bool) -> Result<()> {
             writeln!(stdout(), "{number} {}.{}", block.round(), block.author())?;
         }
         for (to, packet) in out.sent {
-            match to == me {
-                true => inbox.send((me, packet))?,
-                false => drop(peers[usize::from(to)].try_send(packet)),
-            }
+            drop(peers[usize::from(to)].try_send(packet));
         }
     }
     Ok(())

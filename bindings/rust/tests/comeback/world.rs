@@ -176,7 +176,7 @@ impl World {
         // The blocks of two lives differ.
         let transactions = [vec![self.lives[place] as u8]];
         let out = node.turn(packets.into_iter(), &transactions, is_tick);
-        let checkpoint = node.order.checkpoint();
+        let checkpoint = node.flow.checkpoint();
         self.hand_out(member, out.expect("no failure"));
         let first = *self
             .checkpoints
@@ -243,7 +243,7 @@ impl World {
     /// The round of a member's last leader.
     fn leader(&self, of: u16) -> u64 {
         let node = self.nodes[usize::from(of)].as_ref();
-        node.map_or(0, |node| node.order.checkpoint().leader.round)
+        node.map_or(0, |node| node.flow.checkpoint().leader.round)
     }
 
     fn others(&self) -> impl Iterator<Item = u16> + '_ {

@@ -5,7 +5,7 @@ use crate::lab::Com;
 use crate::world::{Checks, Packet, Post};
 use narwhal_store::{CertifyReply, Checked, Digest, Limits, Store, Subject};
 use narwhal_store::{CollectReply, WriteReply};
-use narwhal_validator::{Flow, Missing};
+use narwhal_validator::{Flow, Request};
 
 const WINDOW: u32 = 16;
 
@@ -25,14 +25,14 @@ impl Drops {
         };
         let store = Store::new(&com.committee, limits).unwrap();
         Drops {
-            flow: Flow::over(&store, store.session().unwrap()),
+            flow: Flow::over(&store, store.session().unwrap(), 0),
             store,
             com,
         }
     }
 
     /// What the certified blocks lack, and what all others do.
-    fn lacks(&mut self) -> [Vec<Missing>; 2] {
+    fn lacks(&mut self) -> [Vec<(Subject, Subject)>; 2] {
         let missing = self.flow.missing(usize::MAX).unwrap();
         [missing, self.flow.doubtful(usize::MAX)]
     }
@@ -174,7 +174,19 @@ fn invented_parents_do_not_hide_the_missing_parent_of_a_certified_block() {
     assert_eq!(missing, [(child, lacking)]);
     assert_eq!(doubtful.len(), 33 * 15 * 67);
     // Only the author of such a block is asked, and for a few parents at a time.
-    assert_eq!(drops.flow.doubtful(8).len(), 33 * 8);
+    let doubtful = drops.flow.doubtful(8);
+    assert_eq!(doubtful.len(), 33 * 8);
+    let requests = drops.flow.requests(8).unwrap();
+    let asked = |of: Subject| -> Vec<u16> {
+        let requests = requests.iter().filter(|(_, it)| *it == Request::Of(of));
+        requests.map(|(to, _)| *to).collect()
+    };
+    for (child, parent) in doubtful {
+        assert_eq!(asked(parent), [child.author]);
+    }
+    assert_eq!(asked(lacking), [50, 1], "the author, and others in turn");
+    let others = 99; // They are asked how far they are.
+    assert_eq!(requests.len(), others + 33 * 8 + 2);
     // And only a few of its blocks are looked at again for a vote.
     let before = drops.store.events();
     assert!(drops.flow.due(8).is_empty());

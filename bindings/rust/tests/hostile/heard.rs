@@ -1,8 +1,8 @@
 //! What a member that was away concludes from the answers of others, and what a log answers.
 
 use crate::lab::Com;
-use narwhal_store::{Digest, Subject};
-use narwhal_validator::{Checkpoint, Heard, Log, Request, promise};
+use narwhal_store::{Digest, Limits, Store, Subject};
+use narwhal_validator::{Checkpoint, Flow, Heard, Log, Request, promise};
 use std::fs;
 use std::path::PathBuf;
 
@@ -26,7 +26,7 @@ impl Room {
     fn standing(&self, records: &[Vec<u8>]) -> Vec<u8> {
         let mut log = self.open().log;
         for record in records {
-            log.append(&[record]).expect("a disk");
+            log.append(&record[..]);
             log.sync().expect("a disk");
         }
         let answer = log.answer(&Request::Standing).expect("a disk").remove(0);
@@ -104,41 +104,79 @@ fn a_member_without_its_log_waits_for_a_quorum_of_the_others() {
     assert!(!heard.hear(1, &forged));
 }
 
+fn flow(com: &Com, window: u32) -> Flow {
+    let limits = Limits {
+        window,
+        ..Limits::default()
+    };
+    let store = Store::new(&com.committee, limits).expect("a store");
+    Flow::over(&store, store.session().expect("a session"), 0)
+}
+
 #[test]
 fn a_log_answers_for_rounds_and_keeps_promises() {
     let (com, room) = (Com::new(4), Room::new("answers"));
     let block = |round| com.block(1, round, &[0, 1, 2].map(|at| (at, Digest([9; 32]))), &[]);
-    let ((one, of_one), (two, _)) = (block(5), block(6));
+    let ((one, of_one), (two, of_two)) = (block(5), block(6));
     let records = [
         promise(u64::MAX),
-        promise(6),
+        promise(5),
         one.clone(),
         certificate(&com, 5),
         checkpoint(7, 0).record(),
         two.clone(),
     ];
-    let mut log = room.open().log;
-    log.append(&records.each_ref().map(Vec::as_slice))
-        .expect("a disk");
+    // It keeps a window of rounds below the garbage round: here, one.
+    let replayed = room.open().replay(&mut flow(&com, 1), false);
+    let mut log = replayed.expect("a log");
+    records.iter().for_each(|record| log.append(&record[..]));
     log.sync().expect("a disk");
     let mut round = log.answer(&Request::Round(5)).expect("a disk");
     round.sort();
     assert_eq!(round, [one.clone(), certificate(&com, 5)]);
     assert_eq!(log.answer(&Request::Of(of_one)).expect("a disk"), [one]);
-    let replays = |signs_from: u64, messages: &[&[u8]]| {
-        let opened = room.open();
-        let replay = opened.replay();
-        assert_eq!(replay.checkpoint, checkpoint(7, 0));
-        assert_eq!(
-            (replay.signs_from, &replay.messages[..]),
-            (signs_from, messages)
-        );
-    };
-    replays(6, &[&records[2], &records[3], &two]);
-    // What is of round 5 goes.
-    log.cut_to(6).expect("a disk");
-    replays(6, &[&two]);
+    let mut again = flow(&com, 24);
+    let opened = room.open();
+    assert_eq!(opened.records, records);
+    opened.replay(&mut again, false).expect("a log");
+    assert_eq!(again.checkpoint(), checkpoint(7, 0));
+    for of in [of_one, of_two] {
+        let look = again.session().look(of.round, of.author);
+        assert_eq!((look.first, look.garbage_round), (Some(of.digest), 5));
+    }
+    assert!(again.session().look(5, 2).certified.is_some());
+    // What is of round 5 goes, but no promise: a later one holds.
+    let last = checkpoint(9, 0).record();
+    log.append(&last[..]);
+    log.sync().expect("a disk");
+    let [no, yes, _, _, _, two] = &records;
+    assert_eq!(
+        room.open().records,
+        [&last, no, yes, two, &last].map(Vec::clone)
+    );
+    assert!(log.answer(&Request::Round(5)).expect("a disk").is_empty());
+    let mut again = flow(&com, 24);
+    room.open().replay(&mut again, false).expect("a log");
+    assert_eq!(again.checkpoint(), checkpoint(9, 0));
     for request in [Request::Of(of_one), Request::Round(6), Request::Standing] {
         assert_eq!(Request::read(&request.bytes()), Some(request));
     }
+}
+
+/// The last promise counts, also after a crash.
+#[test]
+fn a_member_without_its_log_signs_nothing() {
+    let (com, room) = (Com::new(4), Room::new("promises"));
+    let makes_a_block = |is_lost| {
+        let mut flow = flow(&com, 24);
+        room.open().replay(&mut flow, is_lost).expect("a log");
+        flow.next_block().expect("memory").is_some()
+    };
+    let mut log = room.open().log;
+    for (round, makes) in [(1, false), (0, true), (u64::MAX, false), (0, true)] {
+        log.append(promise(round));
+        log.sync().expect("a disk");
+        assert_eq!(makes_a_block(false), makes, "{round}");
+    }
+    assert!(!makes_a_block(true) && !makes_a_block(false));
 }

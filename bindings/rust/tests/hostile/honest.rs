@@ -71,7 +71,7 @@ impl<'a> Honest<'a> {
             me,
             com,
             rules,
-            flow: Flow::over(&store, store.session().expect("a session")),
+            flow: Flow::over(&store, store.session().expect("a session"), me),
             store,
             decider: Decider::new(members),
             gather: None,

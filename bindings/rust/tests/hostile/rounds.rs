@@ -41,7 +41,7 @@ fn round_of(members: [u16; 2]) -> (f64, u64, usize) {
     let weight = |member| if member == MEMBERS - 1 { 1_000 } else { 1 };
     let com = Com::weighted(&(0..MEMBERS).map(weight).collect::<Vec<u32>>());
     let store = Store::new(&com.committee, Limits::default()).expect("a store");
-    let mut flow = Flow::over(&store, store.session().expect("a session"));
+    let mut flow = Flow::over(&store, store.session().expect("a session"), 0);
     let mut parents = Vec::new();
     let (mut time, mut votes) = (f64::INFINITY, 0);
     let before = store.events();

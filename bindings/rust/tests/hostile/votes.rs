@@ -88,7 +88,7 @@ fn a_vote_is_due_when_the_last_parent_comes() {
     for seed in 0..100 {
         let mut draw = Draw::new(seed);
         let store = Store::new(&com.committee, Limits::default()).expect("a store");
-        let mut flow = Flow::over(&store, store.session().expect("a session"));
+        let mut flow = Flow::over(&store, store.session().expect("a session"), 0);
         let messages = messages(&com, &mut draw);
         let block = |checked: &Checked| match checked {
             Checked::Block(block) => Some(block.block()),

@@ -52,31 +52,23 @@ impl Budgets {
     /// Whether a message from the peer may be checked. If so, it is charged: ask last, after
     /// [`Flow::wants`](crate::Flow::wants).
     pub fn check(&mut self, from: u16, message: &[u8]) -> bool {
-        let Some(left) = self.left.get_mut(usize::from(from)) else {
-            return false;
-        };
         let signatures = match Peek::of(message) {
             Some(Peek::Block { .. } | Peek::Vote { .. }) => 1,
             // A certificate, or a request, or how far the peer is, with a certificate.
             _ => message.len().saturating_sub(CERTIFICATE) / SIGNER,
         };
-        let is_within = message.len() <= left.bytes && signatures <= left.signatures;
-        if is_within {
+        let left = self.left.get_mut(usize::from(from));
+        let left = left.filter(|it| message.len() <= it.bytes && signatures <= it.signatures);
+        let charge = |left: &mut Allowance| {
             left.bytes -= message.len();
             left.signatures -= signatures;
-        }
-        is_within
+        };
+        left.map(charge).is_some()
     }
 
     /// Whether these bytes may be sent to answer a request of the peer. If so, they are charged.
     pub fn serve(&mut self, to: u16, bytes: usize) -> bool {
-        let Some(left) = self.left.get_mut(usize::from(to)) else {
-            return false;
-        };
-        let is_within = bytes <= left.served;
-        if is_within {
-            left.served -= bytes;
-        }
-        is_within
+        let left = self.left.get_mut(usize::from(to)).filter(|left| bytes <= left.served);
+        left.map(|left| left.served -= bytes).is_some()
     }
 }

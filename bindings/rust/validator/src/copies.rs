@@ -11,9 +11,9 @@ pub(crate) type Mark = [u8; 8];
 
 const HEAD: usize = 24;
 /// The bytes of an entry before its body.
-pub(crate) const BEFORE: usize = 24;
+const BEFORE: usize = 24;
 /// The bytes of a record's length.
-pub(crate) const LENGTH: usize = 4;
+const LENGTH: usize = 4;
 /// The longer log that a new log replaces: there is none.
 pub(crate) const NONE: Mark = [0; 8];
 
@@ -22,22 +22,19 @@ pub(crate) struct Found {
     pub(crate) mark: Mark,
     /// The records, each with its offset.
     pub(crate) records: Vec<(u64, Vec<u8>)>,
-    pub(crate) end: usize,
-    /// For each copy, what it lacks, with the offset.
-    pub(crate) repairs: [Vec<(usize, Vec<u8>)>; 2],
+    pub(crate) bytes: Vec<u8>,
+    /// How many entries each copy lacks, the head included.
+    pub(crate) lacks: [usize; 2],
 }
 
 impl Found {
     /// Everything that copies of a log with this head have.
     pub(crate) fn all(copies: &[Vec<u8>; 2], head: &[u8]) -> Result<Found> {
-        let lacks = |copy: &Vec<u8>| !copy.starts_with(head);
-        let repairs =
-            copies.each_ref().map(|copy| Vec::from_iter(lacks(copy).then(|| (0, head.to_vec()))));
         let mut found = Found {
             mark: std::array::from_fn(|at| head[at]),
             records: Vec::new(),
-            end: HEAD,
-            repairs,
+            bytes: head.to_vec(),
+            lacks: copies.each_ref().map(|copy| usize::from(!copy.starts_with(head))),
         };
         while found.take_entry(copies)? {}
         Ok(found)
@@ -45,8 +42,8 @@ impl Found {
 
     /// Takes the next entry, if a copy has it.
     fn take_entry(&mut self, copies: &[Vec<u8>; 2]) -> Result<bool> {
-        let (end, mark) = (self.end, self.mark);
-        let found = copies.each_ref().map(|copy| entry_at(copy.get(end..)?, &mark));
+        let end = self.bytes.len();
+        let found = copies.each_ref().map(|copy| entry_at(copy.get(end..)?, &self.mark));
         let entry = match found {
             [None, None] => return Ok(false),
             [Some(one), Some(other)] if one != other => {
@@ -55,12 +52,10 @@ impl Found {
             }
             [Some(entry), _] | [None, Some(entry)] => entry,
         };
-        for (copy, repairs) in found.iter().zip(&mut self.repairs) {
-            if copy.is_none() {
-                repairs.push((end, entry.to_vec()));
-            }
+        for (copy, lacks) in found.iter().zip(&mut self.lacks) {
+            *lacks += usize::from(copy.is_none());
         }
-        self.end += entry.len();
+        self.bytes.extend(entry);
         self.records.extend(records_of(entry, end));
         Ok(true)
     }
@@ -150,8 +145,8 @@ fn checksum(mark: &Mark, body: &[u8]) -> [u8; 8] {
     first_half(&Digest::of(&[mark, &length, body].concat()))
 }
 
-pub(crate) fn entry_of(mark: &Mark, records: &[&[u8]]) -> Vec<u8> {
-    let body = records.iter().flat_map(|record| with_length(record));
+pub(crate) fn entry_of(mark: &Mark, records: &[impl AsRef<[u8]>]) -> Vec<u8> {
+    let body = records.iter().flat_map(|record| with_length(record.as_ref()));
     let body: Vec<u8> = body.collect();
     let length = (body.len() as u64).to_be_bytes();
     [&mark[..], &length, &checksum(mark, &body), &body].concat()
@@ -167,7 +162,7 @@ fn entry_at<'a>(bytes: &'a [u8], mark: &Mark) -> Option<&'a [u8]> {
 }
 
 /// The records of an entry at this offset, each with its own offset.
-fn records_of(entry: &[u8], offset: usize) -> Vec<(u64, Vec<u8>)> {
+pub(crate) fn records_of(entry: &[u8], offset: usize) -> Vec<(u64, Vec<u8>)> {
     let (mut records, mut at) = (Vec::new(), BEFORE);
     while let Some((length, rest)) = entry[at..].split_first_chunk() {
         let record = &rest[..u32::from_be_bytes(*length) as usize];

@@ -1,23 +1,24 @@
-//! What a validator drops before it checks a message, when it votes for a stored block, and what it
-//! asks other members for.
+//! What a validator drops before it checks a message, and when it votes for a stored block.
 //!
 //! The order for each message is: peek, drop, check, write, vote once no parent is missing, log,
-//! sync, send. No look is an event of the history. A flow looks at the parents of a first block when it is
-//! stored, and notes those that are not satisfied: 34 bytes for each, until the block has a
-//! certificate. A replay of the log notes them again.
+//! sync, send. A flow looks at the parents of a first block when it is stored, which is no event, and
+//! notes those that are not satisfied: 34 bytes for each, until the block has a certificate.
+
+mod asking;
 
 use crate::Checkpoint;
-use crate::order::subject;
+use crate::heard::{ANSWER, weight_of};
 use narwhal_store::{
-    Block, CertifyReply, Checked, CheckedBlock, CollectReply, Committee, Digest, Look, NoMemory,
-    Peek, Session, StepError, Store, Subject, WriteReply,
+    Block, CertifyReply, Checked, CheckedBlock, CheckedCertificate, CheckedVote, CollectReply,
+    Committee, Digest, Gather, Look, NoMemory, Peek, Session, StepError, Store, Subject,
+    WriteReply,
 };
 use std::collections::BTreeMap;
 use std::error::Error;
 use std::fmt;
 
-/// A block, and a parent that it misses.
-pub type Missing = (Subject, Subject);
+/// The delivered blocks, in order, and the subjects to vote for.
+pub type Delivered = (Vec<Block>, Vec<Subject>);
 
 /// The authors and digests of a block's parents.
 pub type Parents = Vec<(u16, Digest)>;
@@ -50,43 +51,43 @@ struct Waiting {
     unmet: Parents,
 }
 
-impl Waiting {
-    /// Notes a satisfied parent. Returns whether it was the last one.
-    fn meet(&mut self, parent: &Subject) -> bool {
-        let place = self.unmet.binary_search_by_key(&parent.author, |of| of.0);
-        let is_met = place.is_ok_and(|place| self.unmet[place].1 == parent.digest);
-        if let (true, Ok(place)) = (is_met, place) {
-            self.unmet.remove(place);
-        }
-        is_met && self.unmet.is_empty()
-    }
-}
-
 /// The questions of a validator to its store. A store has one flow. If a function of it fails, a call
 /// was not made, or the store has no memory for its looks: ask again.
 pub struct Flow {
+    me: u16,
     session: Session,
-    committee: Committee,
-    window: u64,
+    pub(crate) committee: Committee,
+    pub(crate) window: u64,
     /// The first blocks without a certificate, by round and author.
     waiting: BTreeMap<(u64, u16), Waiting>,
     /// The newest round with a certificate.
     newest: u64,
     /// It votes for no block of a round below this one, and makes none.
-    signs_from: u64,
+    pub(crate) signs_from: u64,
+    /// The votes for its last block, until that has a certificate.
+    gather: Option<Gather>,
+    checkpoint: Checkpoint,
+    /// The checkpoint when it last asked others, and the member that it asked last.
+    asked: Checkpoint,
+    last: u16,
 }
 
 impl Flow {
-    /// The flow over a new store, which it hears everything of, and one of its sessions.
+    /// The flow of a member over a new store, which it hears everything of, and one of its sessions.
     #[must_use]
-    pub fn over(store: &Store, session: Session) -> Flow {
+    pub fn over(store: &Store, session: Session, me: u16) -> Flow {
         Flow {
+            me,
             session,
             committee: store.committee().clone(),
             window: store.limits().window.into(),
             waiting: BTreeMap::new(),
             newest: 0,
             signs_from: 0,
+            gather: None,
+            checkpoint: Checkpoint::START,
+            asked: Checkpoint::START,
+            last: me,
         }
     }
 
@@ -101,16 +102,18 @@ impl Flow {
         self.newest
     }
 
-    /// From now on it makes no block of a round below this one, and no vote for one.
-    pub fn sign_from(&mut self, round: u64) {
-        self.signs_from = round;
+    /// The checkpoint of the last leader.
+    #[must_use]
+    pub fn checkpoint(&self) -> Checkpoint {
+        self.checkpoint
     }
 
-    /// Whether the message is worth a check: the store may take it, and does not have it. A vote
-    /// always is.
+    /// Whether a packet is worth a check: a block or a certificate that the store may take, and does
+    /// not have, a vote for this member's last block, if that has no certificate, or an answer to
+    /// [`Request::Standing`].
     pub fn wants(&mut self, message: &[u8]) -> bool {
         let Some(peek) = Peek::of(message) else {
-            return false;
+            return message.first() == Some(&ANSWER);
         };
         let look = self.session.look(peek.round(), peek.author());
         let is_new = match peek {
@@ -119,7 +122,9 @@ impl Flow {
                 !look.stands && (look.first.is_none() || look.certified.is_some())
             }
             Peek::Certificate(subject) => look.certified != Some(subject.digest),
-            Peek::Vote { .. } => return true,
+            Peek::Vote { subject, .. } => {
+                return self.gather.as_ref().is_some_and(|own| own.subject() == subject);
+            }
         };
         let rounds = look.garbage_round..look.garbage_round + self.window;
         is_new && rounds.contains(&peek.round())
@@ -133,23 +138,59 @@ impl Flow {
     /// The call was not made, or the validator must stop.
     pub fn call(&mut self, checked: &Checked) -> Result<Option<Vec<Subject>>, FlowError> {
         let step = FlowError::Step;
+        let broken = |of| Err(FlowError::Broken(of));
         match checked {
-            Checked::Block(block) => match *self.session.write(block).map_err(step)?.reply() {
-                WriteReply::Stored { .. } => Ok(Some(self.stored(block))),
-                WriteReply::Clash | WriteReply::Misfit => Err(FlowError::Broken(block.subject())),
+            Checked::Block(of) => match *self.session.write(of).map_err(step)?.reply() {
+                WriteReply::Stored { .. } => Ok(Some(self.stored(of))),
+                WriteReply::Clash | WriteReply::Misfit => broken(of.subject()),
                 _ => Ok(None),
             },
-            Checked::Certificate(made) => {
-                match *self.session.certify(made).map_err(step)?.reply() {
-                    CertifyReply::Certified => Ok(Some(self.certified(&made.subject()))),
-                    CertifyReply::Conflict(_) | CertifyReply::Misfit => {
-                        Err(FlowError::Broken(made.subject()))
-                    }
-                    _ => Ok(None),
-                }
-            }
+            Checked::Certificate(of) => match *self.session.certify(of).map_err(step)?.reply() {
+                CertifyReply::Certified => Ok(Some(self.certified(&of.subject()))),
+                CertifyReply::Conflict(_) | CertifyReply::Misfit => broken(of.subject()),
+                _ => Ok(None),
+            },
             Checked::Vote(_) => Ok(None),
         }
+    }
+
+    /// Counts a vote for this member's last block. At a quorum, it returns the certificate: make its
+    /// call, and send it to all.
+    pub fn count(&mut self, vote: &CheckedVote) -> Option<CheckedCertificate> {
+        let own = self.gather.as_mut()?;
+        (own.add(vote) == Ok(true)).then(|| own.certificate().ok())?
+    }
+
+    /// Delivers a leader, whose causal list has the last leader, and raises the garbage round, to at
+    /// most its round. Returns the blocks of its list that the lists before do not have. Then log the
+    /// checkpoint. All members must choose the same leaders, with the same garbage rounds. Returns
+    /// `None`, and changes nothing, if this leader or the last one is not complete.
+    ///
+    /// The first block has the number `delivered` of the checkpoint before. After a crash, the blocks
+    /// after the last logged checkpoint are delivered again, with the same numbers.
+    pub fn deliver(
+        &mut self,
+        leader: &Subject,
+        garbage_round: u64,
+    ) -> Result<Option<Delivered>, StepError> {
+        let Ok(ticket) = self.session.causal(&leader.digest)?.into_ticket() else {
+            return Ok(None);
+        };
+        let new = match self.session.causal(&self.checkpoint.leader.digest)?.into_ticket() {
+            Ok(last) => ticket.walk_after(&last)?,
+            Err(_) if self.checkpoint == Checkpoint::START => ticket.walk()?.collect(),
+            Err(_) => return Ok(None),
+        };
+        let due = self.collect(garbage_round)?.unwrap_or_default();
+        let Checkpoint { delivered, order, .. } = self.checkpoint;
+        let next = |order: Digest, of: &Block| Digest::of(&[order.0, of.digest().0].concat());
+        self.checkpoint = Checkpoint {
+            leader: *leader,
+            garbage_round,
+            delivered: delivered + new.len() as u64,
+            order: new.iter().fold(order, next),
+        };
+        Ok(Some((new, due)))
     }
 
     /// Raises the garbage round. Returns as [`Flow::call`] does.
@@ -173,6 +214,10 @@ impl Flow {
             due.extend(is_due.then_some(subject));
             let (slot, block) = ((subject.round, subject.author), subject);
             self.waiting.insert(slot, Waiting { block, unmet });
+            let last = self.gather.as_ref().map(|own| own.subject().round);
+            if subject.author == self.me && last < Some(subject.round) {
+                self.gather = Gather::new(&self.committee, &subject).ok();
+            }
         }
         self.signed(due)
     }
@@ -180,6 +225,7 @@ impl Flow {
     /// The subjects to vote for after a certificate that answered `Certified`.
     pub fn certified(&mut self, subject: &Subject) -> Vec<Subject> {
         self.waiting.remove(&(subject.round, subject.author)); // It needs no vote.
+        self.gather.take_if(|own| own.subject() == *subject);
         self.newest = self.newest.max(subject.round);
         let look = self.session.look(subject.round, subject.author);
         let due = self.met(subject, &look);
@@ -210,56 +256,9 @@ impl Flow {
         self.signed(due)
     }
 
-    /// The certified digests without a stored block. The signers have these blocks.
-    pub fn absent(&mut self) -> Result<Vec<Subject>, NoMemory> {
-        self.certified_by(|look| !look.stands)
-    }
-
-    /// The parents that the `most` oldest incomplete certified blocks miss. The signers of each block
-    /// have its parents.
-    pub fn missing(&mut self, most: usize) -> Result<Vec<Missing>, StepError> {
-        let mut missing = Vec::new();
-        let incomplete = self.certified_by(|look| look.stands && !look.complete)?;
-        for block in incomplete.into_iter().take(most) {
-            let parents = self.session.missing_of(&block.digest)?.into_reply();
-            let with_block = |parent| (block, parent);
-            missing.extend(parents.into_iter().flatten().map(with_block));
-        }
-        Ok(missing)
-    }
-
-    /// The parents that blocks without a certificate miss: for each author at most `most`, of its
-    /// oldest blocks. Nobody may have made them, so ask only the author.
-    pub fn doubtful(&mut self, most: usize) -> Vec<Missing> {
-        let from = (self.garbage_round() + 1, 0);
-        let mut left = vec![most; self.committee.size()];
-        let mut doubtful = Vec::new();
-        for (_, Waiting { block, unmet }) in self.waiting.range(from..) {
-            let left = &mut left[usize::from(block.author)];
-            let some = &unmet[..unmet.len().min(*left)];
-            let parent = |of: &(u16, Digest)| subject(block.round - 1, of.0, of.1);
-            doubtful.extend(some.iter().map(|of| (*block, parent(of))));
-            *left -= some.len();
-        }
-        doubtful
-    }
-
-    /// The rounds to ask one member for as a whole, the oldest first: at most `most` in which it has
-    /// no quorum of complete blocks, although there are certificates of later rounds.
-    pub fn behind(&mut self, most: usize) -> Result<Vec<u64>, NoMemory> {
-        let mut behind = Vec::new();
-        for round in self.garbage_round()..self.newest.saturating_sub(1) {
-            let complete = self.certified_of(round, |look| look.complete)?;
-            if behind.len() < most && !self.is_quorum(&complete) {
-                behind.push(round);
-            }
-        }
-        Ok(behind)
-    }
-
     /// The round and the parents of this member's next block: the newest round with a quorum of
     /// satisfied parents, if it has made no block of that round.
-    pub fn next_block(&mut self, me: u16) -> Result<Option<(u64, Parents)>, NoMemory> {
+    pub fn next_block(&mut self) -> Result<Option<(u64, Parents)>, NoMemory> {
         let garbage_round = self.garbage_round();
         let end = (self.newest + 2).min(garbage_round + self.window);
         for round in (garbage_round.max(self.signs_from)..end).rev() {
@@ -268,7 +267,7 @@ impl Flow {
                 _ => self.certified_of(round - 1, |look| look.stands)?,
             };
             if round == 0 || self.is_quorum(&parents) {
-                let look = self.session.look(round, me);
+                let look = self.session.look(round, self.me);
                 let is_new = look.first.is_none() && look.certified.is_none();
                 let parents = parents.iter().map(|of| (of.author, of.digest));
                 return Ok(is_new.then(|| (round, parents.collect())));
@@ -277,33 +276,14 @@ impl Flow {
         Ok(None)
     }
 
-    /// This member's last block in the store. Send it again from time to time, with its certificate,
-    /// and gather its votes until it has one: a crash or the network may have lost them.
-    pub fn own(&mut self, me: u16) -> Option<Subject> {
+    /// This member's last block in the store. Send it again from time to time, with its certificate:
+    /// a crash or the network may have lost them.
+    pub fn own(&mut self) -> Option<Subject> {
         let rounds = self.garbage_round()..self.newest + 2;
         rounds.rev().find_map(|round| {
-            let look = self.session.look(round, me);
-            Some(subject(round, me, look.certified.or(look.first)?))
+            let look = self.session.look(round, self.me);
+            Some(Subject { digest: look.certified.or(look.first)?, round, author: self.me })
         })
-    }
-
-    /// Whether members with this checkpoint have what is missing here, if they keep a window of rounds
-    /// below the garbage round. Then [`Flow::behind`] lists its rounds. Otherwise jump.
-    pub fn reaches(&mut self, checkpoint: &Checkpoint) -> bool {
-        let end = self.garbage_round() + self.window;
-        self.newest = self.newest.max((checkpoint.leader.round + 2).min(end - 1));
-        checkpoint.garbage_round < end
-    }
-
-    /// Goes on from a checkpoint of the log, before the first call, or of other members, which it then
-    /// logs: it raises the garbage round, and signs nothing up to the leader's round.
-    pub fn jump(&mut self, to: &Checkpoint) -> Result<(), StepError> {
-        if *to != Checkpoint::START {
-            self.collect(to.garbage_round)?;
-            self.signs_from = self.signs_from.max(to.leader.round + 1);
-            self.newest = self.newest.max(to.leader.round + 2);
-        }
-        Ok(())
     }
 
     fn garbage_round(&mut self) -> u64 {
@@ -317,15 +297,7 @@ impl Flow {
     }
 
     fn is_quorum(&self, of: &[Subject]) -> bool {
-        let weight = |of: &Subject| self.committee.member(of.author).map_or(0, |it| it.weight);
-        of.iter().map(weight).sum::<u32>() >= self.committee.quorum()
-    }
-
-    /// The certified digests with such a look, of all rounds.
-    fn certified_by(&mut self, is_such: impl Fn(&Look) -> bool) -> Result<Vec<Subject>, NoMemory> {
-        let rounds = self.garbage_round()..=self.newest;
-        let lists: Result<Vec<_>, _> = rounds.map(|at| self.certified_of(at, &is_such)).collect();
-        Ok(lists?.concat())
+        weight_of(&self.committee, of.iter().map(|of| of.author)) >= self.committee.quorum()
     }
 
     /// The certified digests of a round with such a look.
@@ -336,7 +308,7 @@ impl Flow {
     ) -> Result<Vec<Subject>, NoMemory> {
         let of = |(author, look): (u16, Look)| {
             let digest = look.certified.filter(|_| is_such(&look))?;
-            Some(subject(round, author, digest))
+            Some(Subject { digest, round, author })
         };
         let looks = self.session.look_round(round)?.into_iter();
         Ok(looks.filter_map(of).collect())
@@ -360,7 +332,11 @@ impl Flow {
         }
         let round = parent.round + 1;
         let children = self.waiting.range_mut((round, 0)..(round + 1, 0));
-        let met = children.filter_map(|(_, child)| child.meet(parent).then_some(child.block));
+        let met = children.filter_map(|(_, child)| {
+            let place = child.unmet.binary_search(&(parent.author, parent.digest)).ok()?;
+            child.unmet.remove(place);
+            child.unmet.is_empty().then_some(child.block)
+        });
         met.collect()
     }
 }

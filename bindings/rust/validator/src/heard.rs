@@ -4,11 +4,12 @@ use crate::Checkpoint;
 use crate::order::{bytes_of, subject_at};
 use narwhal_store::{Checked, Committee, Subject};
 use std::collections::{BTreeMap, BTreeSet, VecDeque};
+use std::iter;
 
 const OF_SUBJECT: u8 = b'B';
 const ROUND: u8 = b'R';
 const STANDING: u8 = b'?';
-const ANSWER: u8 = b'A';
+pub(crate) const ANSWER: u8 = b'A';
 const SIGNS_FROM: u8 = b'S';
 /// The most checkpoints of a standing.
 pub(crate) const RECENT: usize = 8;
@@ -68,6 +69,11 @@ pub(crate) fn promised(record: &[u8]) -> Option<u64> {
     Some(u64::from_be_bytes(round.try_into().ok()?))
 }
 
+/// The sum of the weights of members.
+pub(crate) fn weight_of(committee: &Committee, members: impl Iterator<Item = u16>) -> u32 {
+    members.filter_map(|member| committee.member(member)).map(|it| it.weight).sum()
+}
+
 /// What the other members say about how far they are. Each may say it again.
 pub struct Heard {
     committee: Committee,
@@ -107,20 +113,15 @@ impl Heard {
         Some((checkpoints?, newest))
     }
 
-    fn weight(&self, member: u16) -> u32 {
-        self.committee.member(member).map_or(0, |it| it.weight)
-    }
-
     /// The newest checkpoint that members of more than the tolerated weight, so an honest one, say.
     #[must_use]
     pub fn checkpoint(&self) -> Option<Checkpoint> {
-        let all = (0..self.committee.size() as u16).map(|it| self.weight(it));
-        let tolerated = all.sum::<u32>() - self.committee.quorum();
+        let all = weight_of(&self.committee, 0..self.committee.size() as u16);
+        let tolerated = all - self.committee.quorum();
         let mut weights = BTreeMap::new();
         for (member, (checkpoints, _)) in &self.said {
-            for checkpoint in checkpoints {
-                *weights.entry(checkpoint).or_insert(0) += self.weight(*member);
-            }
+            let weight = weight_of(&self.committee, iter::once(*member));
+            checkpoints.iter().for_each(|it| *weights.entry(it).or_insert(0) += weight);
         }
         let mut enough = weights.into_iter().rev();
         let (checkpoint, _) = enough.find(|(_, weight)| *weight > tolerated)?;
@@ -132,8 +133,8 @@ impl Heard {
     /// signer of one of them is among those that answered, and had certificates of round r - 2.
     #[must_use]
     pub fn signs_from(&self) -> Option<u64> {
-        let weight: u32 = self.said.keys().map(|&member| self.weight(member)).sum();
         let newest = self.said.values().map(|(_, newest)| *newest).max()?;
+        let weight = weight_of(&self.committee, self.said.keys().copied());
         let is_enough = weight >= self.committee.quorum();
         is_enough.then(|| newest.map_or(2, |newest| newest + 3))
     }

@@ -1,8 +1,7 @@
 //! What a validator does around the block store `narwhal_store`. This crate is tested, not proved.
 //!
-//! - [`Flow`]: which messages to check, when to vote, and what to fetch.
+//! - [`Flow`]: which messages to check, when to vote, what to fetch, and the delivered order.
 //! - [`Log`]: the calls that changed the store, on a disk.
-//! - [`Order`]: the delivered order, and its [`Checkpoint`]s.
 //! - [`Heard`]: what the others say to a member that was away.
 //! - [`Budgets`]: how much of a peer's messages to check, and how much to send it, in a second.
 //!
@@ -19,7 +18,7 @@ mod log;
 mod order;
 
 pub use budgets::{Allowance, Budgets};
-pub use flow::{Flow, FlowError, Missing, Parents};
+pub use flow::{Delivered, Flow, FlowError, Parents};
 pub use heard::{Heard, Request, promise};
-pub use log::{Log, Opened, Replay};
-pub use order::{Checkpoint, Order};
+pub use log::{Log, Opened};
+pub use order::Checkpoint;

@@ -10,11 +10,11 @@
 //! digest. Peers do not know the mark, so no message can contain what looks like an entry.
 
 use crate::copies::{
-    BEFORE, Found, LENGTH, Mark, NONE, common_head, damaged, entry_of, file_at, folder_of, head_of,
-    new_mark, replace,
+    Found, Mark, NONE, common_head, damaged, entry_of, file_at, folder_of, head_of, new_mark,
+    records_of, replace,
 };
-use crate::heard::{RECENT, promised, standing};
-use crate::{Checkpoint, Request};
+use crate::heard::{RECENT, promise, promised, standing};
+use crate::{Checkpoint, Flow, Request};
 use narwhal_store::{Digest, Peek};
 use std::collections::{BTreeMap, VecDeque};
 use std::fs::{self, File};
@@ -31,8 +31,11 @@ pub struct Log {
     paths: [PathBuf; 2],
     copies: [File; 2],
     mark: Mark,
-    end: u64,
-    is_synced: bool,
+    end: usize,
+    /// The records of the next entry.
+    pending: Vec<Vec<u8>>,
+    /// How many rounds below the garbage round it keeps.
+    kept: u64,
     /// Where the block and the certificate of each round and digest are.
     places: BTreeMap<(u64, Digest), Vec<Place>>,
     /// The newest round of a certificate, and its place.
@@ -42,16 +45,6 @@ pub struct Log {
 
 /// An offset and a length.
 type Place = (u64, usize);
-
-/// What a validator repeats after a crash: a jump, and the calls of messages, in order.
-pub struct Replay<'a> {
-    /// The last checkpoint.
-    pub checkpoint: Checkpoint,
-    /// The round of the last promise, or 0.
-    pub signs_from: u64,
-    /// The messages from the garbage round on.
-    pub messages: Vec<&'a [u8]>,
-}
 
 /// A log with the records that it had.
 pub struct Opened {
@@ -66,20 +59,34 @@ pub struct Opened {
 }
 
 impl Opened {
-    /// What to repeat of messages, checkpoints and promises. Older messages only answer requests.
-    #[must_use]
-    pub fn replay(&self) -> Replay<'_> {
-        let records = || self.records.iter();
-        let checkpoints = records().filter_map(|record| Checkpoint::read(record));
-        let checkpoint = checkpoints.max().unwrap_or(Checkpoint::START);
-        let is_kept = |record: &&[u8]| {
-            Peek::of(record).is_some_and(|of| of.round() >= checkpoint.garbage_round)
-        };
-        Replay {
-            checkpoint,
-            signs_from: records().rev().find_map(|it| promised(it)).unwrap_or(0),
-            messages: records().map(Vec::as_slice).filter(is_kept).collect(),
+    /// Repeats messages, checkpoints and promises in the flow of a new store: it goes on from the last
+    /// checkpoint, and signs from the last promise on. From now on, `sync` cuts the log: it keeps a
+    /// window of rounds below the garbage round, to answer members that were away.
+    ///
+    /// Say if the log was lost, or is an older one: then it first logs a promise to sign nothing.
+    ///
+    /// # Errors
+    ///
+    /// A disk failed, there is no memory, or the committee or the limits are not those of the log.
+    pub fn replay(mut self, flow: &mut Flow, is_lost: bool) -> Result<Log> {
+        if is_lost {
+            self.records.push(promise(u64::MAX));
+            self.log.append(promise(u64::MAX));
+            self.log.sync()?;
         }
+        let records = || self.records.iter().map(Vec::as_slice);
+        let checkpoint = records().filter_map(Checkpoint::read).max();
+        let checkpoint = checkpoint.unwrap_or(Checkpoint::START);
+        flow.signs_from = records().rev().find_map(promised).unwrap_or(0);
+        flow.jump(&checkpoint).map_err(Error::other)?;
+        let is_kept = |of: Peek| of.round() >= checkpoint.garbage_round;
+        let kept = records().filter(|record| Peek::of(record).is_some_and(is_kept));
+        for checked in flow.committee.clone().check_all(&kept.collect::<Vec<_>>(), 2) {
+            let due = flow.call(&checked.map_err(Error::other)?).map_err(Error::other)?;
+            due.ok_or_else(|| Error::other("a call of the log got another reply"))?;
+        }
+        self.log.kept = flow.window;
+        Ok(self.log)
     }
 }
 
@@ -103,86 +110,70 @@ impl Log {
         Ok(opened)
     }
 
-    /// Opens the log as `open` does, and syncs nothing. A validator that sends a vote after this can
-    /// vote twice.
+    /// Opens the log as `open` does, but syncs only what it repairs. A validator that sends a vote
+    /// after this can vote twice.
     pub fn open_without_sync(copies: [&Path; 2]) -> Result<Opened> {
-        let files = [file_at(copies[0])?, file_at(copies[1])?];
+        copies.iter().try_for_each(|path| file_at(path).map(drop))?;
         let mut bytes = [fs::read(copies[0])?, fs::read(copies[1])?];
-        let found_head = common_head(&mut bytes)?;
-        let is_new = found_head.is_none();
-        let head = found_head.unwrap_or_else(|| head_of(&new_mark(), &NONE));
-        for (file, copy) in files.iter().zip(&mut bytes).filter(|_| is_new) {
-            file.write_all_at(&head, 0)?;
-            copy.clone_from(&head);
-        }
-        let found = Found::all(&bytes, &head)?;
-        let (mark, end) = (found.mark, found.end);
+        let head = common_head(&mut bytes)?;
+        let new_head = || head_of(&new_mark(), &NONE);
+        let found = Found::all(&bytes, &head.clone().unwrap_or_else(new_head))?;
+        let end = found.bytes.len();
         let follows = |copy: &Vec<u8>| {
             let rest = copy.get(end + 1..).unwrap_or_default();
-            rest.windows(mark.len()).any(|bytes| bytes == mark)
+            rest.windows(found.mark.len()).any(|bytes| bytes == found.mark)
         };
         if bytes.iter().any(follows) {
             return Err(damaged(end));
         }
-        for (file, repairs) in files.iter().zip(&found.repairs) {
-            for (offset, entry) in repairs {
-                file.write_all_at(entry, *offset as u64)?;
-            }
-            file.set_len(end as u64)?;
-        }
+        Ok(Opened {
+            log: Log::of(copies.map(Path::to_path_buf), &bytes, &found)?,
+            records: Vec::from_iter(found.records.into_iter().map(|(_, record)| record)),
+            cut: bytes.each_ref().map(|copy| copy.len().saturating_sub(end)),
+            repaired: head.map_or([0; 2], |_| found.lacks),
+        })
+    }
+
+    /// The log of these bytes, which it puts in the place of each copy that has others. One copy is
+    /// done before the other one is touched.
+    fn of(paths: [PathBuf; 2], copies: &[Vec<u8>; 2], found: &Found) -> Result<Log> {
+        let file = |at: usize| match copies[at] == found.bytes {
+            true => file_at(&paths[at]),
+            false => replace(&paths[at], &found.bytes),
+        };
         let mut log = Log {
-            paths: copies.map(Path::to_path_buf),
-            copies: files,
-            mark,
-            end: end as u64,
-            is_synced: true,
+            copies: [file(0)?, file(1)?],
+            paths,
+            mark: found.mark,
+            end: found.bytes.len(),
+            pending: Vec::new(),
+            kept: u64::MAX,
             places: BTreeMap::new(),
             newest: None,
             recent: VecDeque::new(),
         };
-        for (offset, record) in &found.records {
-            log.note(*offset, record);
-        }
-        Ok(Opened {
-            log,
-            records: Vec::from_iter(found.records.into_iter().map(|(_, record)| record)),
-            cut: bytes.each_ref().map(|copy| copy.len().saturating_sub(end)),
-            repaired: found.repairs.each_ref().map(Vec::len),
-        })
+        found.records.iter().for_each(|(offset, record)| log.note(*offset, record));
+        Ok(log)
     }
 
-    /// Appends records as one entry: all of them are kept, or none. They count only after `sync`.
-    pub fn append(&mut self, records: &[&[u8]]) -> Result<()> {
-        self.check_synced()?;
-        let entry = entry_of(&self.mark, records);
-        self.is_synced = false;
-        for copy in &self.copies {
-            copy.write_all_at(&entry, self.end)?;
-        }
-        self.note_all(self.end, records);
-        self.end += entry.len() as u64;
-        Ok(())
+    /// Adds a record to the next entry, which `sync` writes.
+    pub fn append(&mut self, record: impl Into<Vec<u8>>) {
+        self.pending.push(record.into());
     }
 
     /// The packets that answer a request: logged messages, or one to [hear](crate::Heard::hear).
     pub fn answer(&self, request: &Request) -> Result<Vec<Vec<u8>>> {
-        let read = |place: &Place| self.read(place);
-        match request {
-            Request::Of(of) => {
-                let places = self.places.get(&(of.round, of.digest));
-                places.into_iter().flatten().map(read).collect()
-            }
-            Request::Round(round) => {
-                let of_round = (*round, Digest([0; 32]))..=(*round, Digest([255; 32]));
-                let places = self.places.range(of_round).flat_map(|(_, places)| places);
-                places.map(read).collect()
-            }
+        let [least, most] = [0, 255].map(|byte| Digest([byte; 32]));
+        let range = match *request {
+            Request::Of(of) => (of.round, of.digest)..=(of.round, of.digest),
+            Request::Round(round) => (round, least)..=(round, most),
             Request::Standing => {
-                let newest = self.newest.map(|(_, place)| self.read(&place));
-                let newest = newest.transpose()?.unwrap_or_default();
-                Ok(vec![standing(&self.recent, &newest)])
+                let newest = self.newest.map(|(_, place)| self.read(&place)).transpose()?;
+                return Ok(vec![standing(&self.recent, &newest.unwrap_or_default())]);
             }
-        }
+        };
+        let places = self.places.range(range).flat_map(|(_, places)| places);
+        places.map(|place| self.read(place)).collect()
     }
 
     fn read(&self, &(offset, length): &Place) -> Result<Vec<u8>> {
@@ -191,21 +182,11 @@ impl Log {
         Ok(bytes)
     }
 
-    /// Notes the places of the records of an entry at this offset.
-    fn note_all(&mut self, offset: u64, records: &[&[u8]]) {
-        let mut at = offset + BEFORE as u64;
-        for record in records {
-            self.note(at + LENGTH as u64, record);
-            at += (LENGTH + record.len()) as u64;
-        }
-    }
-
     fn note(&mut self, offset: u64, record: &[u8]) {
         let place = (offset, record.len());
         let key = match Peek::of(record) {
             Some(Peek::Certificate(of)) => {
-                let newest = Some((of.round, place));
-                self.newest = self.newest.max(newest);
+                self.newest = self.newest.max(Some((of.round, place)));
                 (of.round, of.digest)
             }
             Some(Peek::Block { round, .. }) if record.len() > SIGNATURE => {
@@ -221,58 +202,56 @@ impl Log {
         self.places.entry(key).or_default().push(place);
     }
 
-    /// Replaces the log by a shorter one, on both disks: this record, and then those that it keeps, in
-    /// order. A crash leaves the longer log or the shorter one.
+    /// Syncs, and replaces the log by a shorter one, on both disks: this record, and then those that it
+    /// keeps, in order. A crash leaves the longer log or the shorter one.
     pub fn cut(&mut self, first: &[u8], is_kept: impl Fn(&[u8]) -> bool) -> Result<()> {
-        self.check_synced()?;
+        self.sync()?;
         let bytes = [fs::read(&self.paths[0])?, fs::read(&self.paths[1])?];
         let found = Found::all(&bytes, &head_of(&self.mark, &NONE))?;
-        if found.end as u64 != self.end {
-            return Err(damaged(found.end));
+        if found.bytes.len() != self.end {
+            return Err(damaged(found.bytes.len()));
         }
         let kept = found.records.iter().map(|(_, record)| record.as_slice());
         let kept = iter::once(first).chain(kept.filter(|record| is_kept(record)));
-        let (mark, kept) = (new_mark(), kept.collect::<Vec<_>>());
+        let mark = new_mark();
         let head = head_of(&mark, &self.mark);
-        let bytes = [&head[..], &entry_of(&mark, &kept)].concat();
-        // The second copy is done before the first one is touched.
-        for (path, copy) in self.paths.iter().zip(&mut self.copies).rev() {
-            *copy = replace(path, &bytes)?;
-        }
-        (self.mark, self.end) = (mark, bytes.len() as u64);
-        self.places.clear();
-        self.recent.clear();
-        self.newest = None;
-        self.note_all(head.len() as u64, &kept);
+        let bytes = [&head[..], &entry_of(&mark, &kept.collect::<Vec<_>>())].concat();
+        let found = Found::all(&[bytes, Vec::new()], &head)?;
+        let log = Log::of(self.paths.clone(), &[const { Vec::new() }; 2], &found)?;
+        *self = Log { kept: self.kept, ..log };
         Ok(())
     }
 
-    /// Cuts the log to the last checkpoint, and messages, checkpoints and promises from a round on. To
-    /// serve members that were away, keep rounds below the garbage round too.
-    pub fn cut_to(&mut self, round: u64) -> Result<()> {
-        let last = *self.recent.back().unwrap_or(&Checkpoint::START);
-        self.cut(&last.record(), |record| {
-            let of_message = Peek::of(record).map(|of| of.round());
-            let of_checkpoint = Checkpoint::read(record).map(|of| of.garbage_round);
-            of_message.or(of_checkpoint).or(promised(record)) >= Some(round)
-        })
-    }
-
-    fn check_synced(&self) -> Result<()> {
-        let error = || Error::other("the last entry of the log is not synced");
-        self.is_synced.then_some(()).ok_or_else(error)
-    }
-
-    /// Puts the appended records on both disks, at the same time.
+    /// Puts the appended records on both disks, as one entry: a crash keeps all of them, or none. If
+    /// the log has two windows of rounds below the garbage round, this cuts it. It leaves the last
+    /// checkpoint, and then the promises, and the messages and checkpoints from one window below on.
     pub fn sync(&mut self) -> Result<()> {
+        if self.pending.is_empty() {
+            return Ok(());
+        }
+        let (entry, end) = (entry_of(&self.mark, &self.pending), self.end);
         let [first, second] = &self.copies;
+        first.write_all_at(&entry, end as u64)?;
+        second.write_all_at(&entry, end as u64)?;
         thread::scope(|scope| {
             let other = scope.spawn(|| second.sync_data());
             first.sync_data()?;
             let panicked = |_| Err(Error::other("a sync panicked"));
             other.join().unwrap_or_else(panicked)
         })?;
-        self.is_synced = true;
-        Ok(())
+        self.pending.clear();
+        self.end += entry.len();
+        records_of(&entry, end).iter().for_each(|(offset, record)| self.note(*offset, record));
+        let oldest = self.places.first_key_value().map_or(0, |((round, _), _)| *round);
+        let last = *self.recent.back().unwrap_or(&Checkpoint::START);
+        let round = last.garbage_round.saturating_sub(self.kept);
+        if round < oldest.saturating_add(self.kept) {
+            return Ok(());
+        }
+        self.cut(&last.record(), |record| {
+            let of_message = Peek::of(record).map(|of| of.round());
+            let of_checkpoint = Checkpoint::read(record).map(|of| of.garbage_round);
+            promised(record).is_some() || of_message.or(of_checkpoint) >= Some(round)
+        })
     }
 }
