@@ -105,7 +105,8 @@ def check_ancestors():
     assert store.look(1, 2)["first"] == leader[2] and store.look(2, 1)["first"] is None
     assert committee.check(certificate_of(leader, (1, 2, 3))).kind == "CERT_FEW_VOTES"
     assert store.take(committee.check(certificate_of(leader, (0, 1, 2)))) == "CERTIFIED" and store.causal(leader[2]) == "INCOMPLETE"
-    assert store.look(1, 2) == {"garbage_round": 0, "first": leader[2], "certified": leader[2], "stands": True, "complete": False}
+    look = {"garbage_round": 0, "newest_round": 1, "first": leader[2], "missing": 4, "certified": leader[2], "stands": True, "complete": False}
+    assert store.look(1, 2) == look
     for author, subject in reversed(list(enumerate(subjects))):
         assert store.take(committee.check(message_of(author, bodies[author]))) == "STORED_VOTE"
         assert store.take(committee.check(certificate_of(subject, (0, 1, 3)))) == "CERTIFIED"
